@@ -1,0 +1,1 @@
+// The ring of turn records in byte memory.
