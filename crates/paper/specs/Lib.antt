@@ -1,1 +1,6 @@
+pub mod Outcome
+pub mod Refusals
+pub mod Words
+pub mod Sum
+pub mod Writing
 pub mod Promises

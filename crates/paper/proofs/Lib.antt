@@ -1,0 +1,6 @@
+pub mod Outcome
+pub mod Refusals
+pub mod Words
+pub mod Xor
+pub mod Writing
+pub mod Determined

@@ -1,0 +1,49 @@
+-- Little-endian words over the width: `value-of-bytes` (put, then read) and `bytes-of-value` (read, then put).
+use Prim.Native.Nat.{ℕ, zero, suc, _+_, _*_, _/_, _%_, _^_, _<_, _≤_}
+use mathlib.Core.Path.{_≡_, refl, ap, _∙_}
+use mathlib.Core.List.{List, [], _∷_, _++_}
+use native.Mathlib.Omega.{arith}
+use native.Mathlib.Nat.{pow-suc}
+use lib.ListN.{length}
+use Rattle.paper.specs.Words.{valueOf, bytesOf, Each, Bytes}
+
+pub length-bytes : (w v : ℕ) → length (bytesOf w v) ≡ w
+unfolding bytesOf
+length-bytes zero v = refl
+length-bytes (suc w) v = ap suc (length-bytes w (v / 256))
+
+pub bytes-are-bytes : (w v : ℕ) → Bytes (bytesOf w v)
+unfolding bytesOf Each
+bytes-are-bytes zero v = tt
+bytes-are-bytes (suc w) v = (omega arith, bytes-are-bytes w (v / 256))
+
+pub value-of-bytes : (w v : ℕ) → v < 256 ^ w → valueOf (bytesOf w v) ≡ v
+unfolding valueOf bytesOf
+value-of-bytes zero v h = omega arith
+value-of-bytes (suc w) v h =
+    let p : 256 ^ suc w ≡ 256 ^ w * 256 = pow-suc 256 w in
+    let i = value-of-bytes w (v / 256) (omega arith) in
+    rw i (omega arith)
+
+pub bytes-of-value : (xs : List ℕ) → Bytes xs → bytesOf (length xs) (valueOf xs) ≡ xs
+unfolding valueOf bytesOf Each
+bytes-of-value [] h = refl
+bytes-of-value (b ∷ xs) h =
+    let l = h .0 in
+    let low : (b + valueOf xs * 256) % 256 ≡ b = omega arith in
+    let rest : (b + valueOf xs * 256) / 256 ≡ valueOf xs = omega arith in
+    rw (low, rest, bytes-of-value xs (h .1))
+
+-- as many bytes hold a number below so many times 256
+pub value-fits : (xs : List ℕ) → Bytes xs → valueOf xs < 256 ^ length xs
+unfolding valueOf Each
+value-fits [] h = omega arith
+value-fits (b ∷ xs) h =
+    let p : 256 ^ suc (length xs) ≡ 256 ^ length xs * 256 = pow-suc 256 (length xs) in
+    let l = h .0 in
+    omega (arith, value-fits xs (h .1))
+
+pub each-append : {A : Type 0} (P : A → Type 0) (xs ys : List A) → Each P xs → Each P ys → Each P (xs ++ ys)
+unfolding Each
+each-append P [] ys a b = b
+each-append P (x ∷ xs) ys a b = (a .0, each-append P xs ys (a .1) b)

@@ -1,0 +1,98 @@
+-- How a writer's promise is met: `writes-all`, `writes-short`, `writes-refused`; and of words put at a place: `put-done`, `put-short`.
+use Prim.Native.Nat.{ℕ, suc, _+_, _-_, _<_, _≤_}
+use mathlib.Core.Path.{_≡_, refl, sym, ap, _∙_}
+use mathlib.Core.List.{List, [], _∷_, _++_}
+use native.Mathlib.Omega.{arith}
+use lib.Dec.{ltb}
+use native.Mathlib.Numerals.{add-one}
+use lib.ListN.{length, take, drop, set, getD}
+use lib.Seq.{take-length, sets, sets-eq, paste, paste-suc}
+use borrow.Author.Tests.{lt-ltb, le-ltb}
+use Rattle.paper.specs.Outcome.{Outcome, gives, refuses, refuseIf, ifGiven, mapped}
+use Rattle.paper.specs.Refusals.{numberOf, answered, written}
+use Rattle.paper.specs.Words.{bytesOf}
+use Rattle.paper.specs.Writing.{fitting, over, Writes}
+use Rattle.paper.specs.Promises.{placing, putAt, WordPut}
+use Rattle.paper.specs.declared.refusal.Refusal.{Refusal}
+use Rattle.paper.specs.declared.refusal.Refusal.the-variants.{OutputShort}
+use Rattle.paper.specs.declared.refusal.Answer.the-variants as answer
+use Rattle.paper.specs.declared.refusal.Written.{Written}
+use Rattle.paper.specs.declared.refusal.Written.the-variants as writing
+use Rattle.paper.proofs.Outcome.{refuse-yes, refuse-no}
+use Rattle.paper.proofs.Words.{length-bytes}
+
+pub fitting-yes : (xs : List ℕ) (room : ℕ) → length xs ≤ room → fitting room (gives xs) ≡ gives xs
+unfolding fitting
+fitting-yes xs room h = refuse-no (numberOf OutputShort) (gives xs) (le-ltb room (length xs) h)
+
+pub fitting-no : (xs : List ℕ) (room : ℕ) → room < length xs → fitting room (gives xs) ≡ refuses (numberOf OutputShort)
+unfolding fitting
+fitting-no xs room h = refuse-yes (numberOf OutputShort) (gives xs) (lt-ltb room (length xs) h)
+
+-- all bytes are written
+pub writes-all : (xs was is : List ℕ) (n : ℕ) → length xs ≤ length was → n ≡ length xs → is ≡ over was xs → Writes (gives xs) was (writing.Bytes n) is
+writes-all xs was is n h c e = record {
+  answer = unfold written mapped in (rw (fitting-yes xs (length was) h, c));
+  output = unfold ifGiven in (rw (fitting-yes xs (length was) h) e);
+}
+
+-- the output is too short
+pub writes-short : (xs was : List ℕ) → length was < length xs → Writes (gives xs) was (writing.Refused OutputShort) was
+writes-short xs was h = record {
+  answer = unfold written mapped in (rw (fitting-no xs (length was) h));
+  output = unfold ifGiven in (rw (fitting-no xs (length was) h));
+}
+
+-- a field fault
+pub writes-refused : (q : Refusal) (was : List ℕ) → Writes (refuses (numberOf q)) was (writing.Refused q) was
+unfolding fitting written mapped ifGiven
+writes-refused q was = record { answer = refl; output = refl }
+
+-- what is written may be said in another way
+pub writes-same : {o p : Outcome (List ℕ)} {was : List ℕ} {r : Written} {is : List ℕ} → o ≡ p → Writes o was r is → Writes p was r is
+writes-same e w = rw e at w
+
+-- ---- a copy to the front of an output, byte by byte
+
+pub copy-step : (was out xs : List ℕ) (i : ℕ) → length xs ≤ length was → i < length xs → out ≡ paste was 0 xs i → set out i (getD xs i 0) ≡ paste was 0 xs (i + 1)
+copy-step was out xs i h l e =
+    let z : i ≡ 0 + i = omega arith in
+    rw (e, add-one) (ap (λ (k : ℕ). set (paste was 0 xs i) k (getD xs i 0)) z ∙ paste-suc was 0 xs i 0 (omega arith) l)
+
+pub copy-end : (was out xs : List ℕ) (i : ℕ) → i ≡ length xs → out ≡ paste was 0 xs i → out ≡ over was xs
+unfolding over
+copy-end was out xs i q e =
+    let z : 0 + length xs ≡ length xs = omega arith in
+    e ∙ rw (q, take-length, z)
+
+-- ---- words at a place
+
+pub put-short : (w v place : ℕ) (was : List ℕ) → length was - place < w → WordPut w v place was (answer.Refused OutputShort) was
+unfolding placing answered ifGiven
+put-short w v place was h =
+    let e = refuse-yes (numberOf OutputShort) (gives tt) (lt-ltb (length was - place) w h) in
+    record { answer = sym e; output = rw e }
+
+pub put-done : (w v place : ℕ) (was is : List ℕ) → place + w ≤ length was → is ≡ sets was place (bytesOf w v) → WordPut w v place was answer.Done is
+unfolding placing answered ifGiven putAt
+put-done w v place was is h s =
+    let e = refuse-no (numberOf OutputShort) (gives tt) (le-ltb (length was - place) w (omega arith)) in
+    let l : length (bytesOf w v) ≡ w = length-bytes w v in
+    record { answer = sym e; output = rw e (s ∙ sets-eq (bytesOf w v) was place (omega arith)) }
+
+pub put-two : (v place : ℕ) (was b : List ℕ) → place + 2 ≤ length was → b ≡ bytesOf 2 v
+    → WordPut 2 v place was answer.Done (set (set was place (getD b 0 0)) (place + 1) (getD b 1 0))
+unfolding bytesOf
+put-two v place was b h e =
+    let one : place + 1 ≡ suc place = omega arith in
+    put-done 2 v place was _ h (rw (e, one))
+
+pub put-four : (v place : ℕ) (was b : List ℕ) → place + 4 ≤ length was → b ≡ bytesOf 4 v
+    → WordPut 4 v place was answer.Done
+    (set (set (set (set was place (getD b 0 0)) (place + 1) (getD b 1 0)) (place + 2) (getD b 2 0)) (place + 3) (getD b 3 0))
+unfolding bytesOf
+put-four v place was b h e =
+    let one : place + 1 ≡ suc place = omega arith in
+    let two : place + 2 ≡ suc (suc place) = omega arith in
+    let three : place + 3 ≡ suc (suc (suc place)) = omega arith in
+    put-done 4 v place was _ h (rw (e, one, two, three))
