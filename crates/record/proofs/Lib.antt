@@ -1,0 +1,6 @@
+pub mod Parts
+pub mod Fields
+pub mod Cells
+pub mod Places
+pub mod Reading
+pub mod Determined
