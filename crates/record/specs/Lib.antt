@@ -1,3 +1,4 @@
 pub mod Fields
 pub mod Record
+pub mod Answers
 pub mod Promises
