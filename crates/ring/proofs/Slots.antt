@@ -4,7 +4,7 @@ use Prim.Native.Nat.{ℕ, _+_, _-_, _*_, _%_, _≤_, _<_, min}
 use mathlib.Core.Path.{_≡_, refl, sym, ap, _∙_}
 use mathlib.Core.Logic.{_≢_, _⊎_, inl, inr, ⊎-elim}
 use mathlib.Core.Bool.{Bool, true, false}
-use native.Mathlib.Nat.{mod-eq-of-lt, mod-eq-sub-mod, mod-lt, add-mod-left}
+use native.Mathlib.Nat.{mod-eq-of-lt, mod-eq-sub-mod, mod-lt, mod-self, add-mod-left}
 use native.Mathlib.Omega.{arith}
 use lib.Dec.{ltb}
 use borrow.Author.Tests.{lt-ltb, le-ltb, ltb-true, ltb-false}
@@ -61,6 +61,25 @@ module _ (S : ℕ) (h : ℕ) (two : 2 ≤ S) (ok : h < 2 * S) where
   pub next-ok : nextHead S h < 2 * S
   unfolding nextHead
   next-ok = ⊎-elim (λ l. simp (lt-ltb (h + 1) (2 * S) l) l) (λ g. simp (le-ltb (h + 1) (2 * S) g) (omega arith)) (less-or-not (h + 1) (2 * S))
+
+-- the next head by a step, and by a remainder once the ring has gone round
+pub next-step : (S h : ℕ) → h < S → h + 1 ≡ nextHead S h
+unfolding nextHead
+next-step S h l = simp (lt-ltb (h + 1) (2 * S) (omega arith))
+
+pub next-round : (S h : ℕ) → S ≤ h → h < 2 * S → S + (h + 1) % S ≡ nextHead S h
+unfolding nextHead
+next-round S h g l =
+    ⊎-elim
+    (λ a.
+    let low : h + 1 - S < S = omega arith in
+    let down : (h + 1) % S ≡ (h + 1 - S) % S = mod-eq-sub-mod (omega arith) in
+    let is : (h + 1) % S ≡ h + 1 - S = down ∙ mod-eq-of-lt low in
+    simp (lt-ltb (h + 1) (2 * S) a) (omega arith))
+    (λ a.
+    let e : h + 1 ≡ S + S = omega arith in
+    simp (le-ltb (h + 1) (2 * S) a) (ap (λ (x : ℕ). S + x % S) e ∙ rw (add-mod-left S S, mod-self S) (omega arith)))
+    (less-or-not (h + 1) (2 * S))
 
 -- how many turns the next record drives out: 1 from a full ring, else 0
 abbrev pub gone : ℕ → ℕ → ℕ

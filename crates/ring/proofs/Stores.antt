@@ -1,9 +1,9 @@
 -- What the stores of one record leave: the size, the head until the last store, and each slot but the one that is written. To know:
 -- `bytes-slot` (no other slot changes), `whole-new` (at the end the slot is the record).
 use Prim.Native.Nat.{ℕ, zero, suc, _+_, _-_, _*_, _%_, _≤_, _<_}
-use mathlib.Core.Path.{_≡_, refl, ap, _∙_}
+use mathlib.Core.Path.{_≡_, refl, sym, ap, _∙_}
 use mathlib.Core.Logic.{_≢_, ⊎-elim}
-use mathlib.Core.List.{List, []}
+use mathlib.Core.List.{List}
 use native.Mathlib.Nat.{mod-lt}
 use native.Mathlib.Numerals.{add-one}
 use native.Mathlib.Omega.{arith}
@@ -11,7 +11,7 @@ use borrow.Author.Tests.{lt-ltb, le-ltb}
 use borrow.Rule.Slice.PartMut.{midOf, putMid, set-mid-at, mid-len}
 use lib.ListN.{length, getD, take, drop, set, length-set}
 use lib.Seq.{getD-set-same, getD-set-other, paste, paste-zero, paste-suc}
-use Rattle.ring.specs.Ring.{slotStart, headOf, IsRing, inSlot, nextHead, touched, put, store, stores}
+use Rattle.ring.specs.Ring.{slotStart, headOf, IsRing, inSlot, nextSlot, nextHead, touched, put, store, stores}
 use Rattle.ring.proofs.Lists.{part-after, part-before, part-pasted}
 use Rattle.ring.proofs.Slots.{less-or-not, next-ok}
 
@@ -19,25 +19,19 @@ pub store-byte : (S : ℕ) (mem rec : List ℕ) (k : ℕ) → k < 754 → store 
 unfolding store touched put
 store-byte S mem rec k l = simp (lt-ltb k 754 l)
 
-pub store-head : (S : ℕ) (mem rec : List ℕ) → store S mem rec 754 ≡ set mem 0 (nextHead S (headOf mem))
-unfolding store touched put
-store-head S mem rec = refl
-
--- a byte that is put into a slot that is lent, once the slot is back
-pub lent-byte : (mem : List ℕ) (start k b : ℕ) (slot : List ℕ) → k < 768 → start + 768 ≤ length mem
-    → slot ≡ set (midOf start (start + 768 - start) mem) k b → putMid start (start + 768 - start) mem slot ≡ set mem (start + k) b
-lent-byte mem start k b slot l fit e =
+-- a byte of the record that is put into the slot that is lent, once the slot is back
+pub lent-store : (S : ℕ) (mem rec slot : List ℕ) (start k : ℕ) → start ≡ slotStart (nextSlot S (headOf mem)) → k < 754 → start + 768 ≤ length mem
+    → slot ≡ set (midOf start (start + 768 - start) mem) k (getD rec k 0) → putMid start (start + 768 - start) mem slot ≡ store S mem rec k
+lent-store S mem rec slot start k is l fit e =
     ap (putMid start (start + 768 - start) mem) e
-    ∙ set-mid-at start (start + 768 - start) k mem b (omega (arith, mid-len start (start + 768) mem fit))
+    ∙ set-mid-at start (start + 768 - start) k mem (getD rec k 0) (omega (arith, mid-len start (start + 768) mem fit))
+    ∙ ap (λ (at : ℕ). set mem (at + k) (getD rec k 0)) is
+    ∙ sym (store-byte S mem rec k l)
 
--- the last store, by cases of the head
-pub store-next : (S : ℕ) (mem rec : List ℕ) (k : ℕ) → 754 ≤ k → headOf mem + 1 < 2 * S → store S mem rec k ≡ set mem 0 (headOf mem + 1)
-unfolding store touched put nextHead
-store-next S mem rec k g l = simp (le-ltb k 754 g, lt-ltb (headOf mem + 1) (2 * S) l)
-
-pub store-wrap : (S : ℕ) (mem rec : List ℕ) (k : ℕ) → 754 ≤ k → 2 * S ≤ headOf mem + 1 → store S mem rec k ≡ set mem 0 S
-unfolding store touched put nextHead
-store-wrap S mem rec k g l = simp (le-ltb k 754 g, le-ltb (headOf mem + 1) (2 * S) l)
+-- the last store is the head's
+pub store-end : (S : ℕ) (mem rec : List ℕ) (k : ℕ) → 754 ≤ k → store S mem rec k ≡ set mem 0 (nextHead S (headOf mem))
+unfolding store touched put
+store-end S mem rec k g = simp (le-ltb k 754 g)
 
 -- no store changes the size
 store-size : (S : ℕ) (mem rec : List ℕ) (k : ℕ) → length (store S mem rec k) ≡ length mem
@@ -106,7 +100,7 @@ module _ (S : ℕ) (mem rec : List ℕ) where
 module _ (S : ℕ) (mem rec : List ℕ) (v : IsRing S mem) (e : length rec ≡ 754) where
   whole-is : stores S mem rec 755 ≡ set (stores S mem rec 754) 0 (nextHead S (headOf mem))
   unfolding stores
-  whole-is = store-head S (stores S mem rec 754) rec ∙ ap (λ (h : ℕ). set (stores S mem rec 754) 0 (nextHead S h)) (bytes-head S mem rec 754 (omega arith))
+  whole-is = store-end S (stores S mem rec 754) rec 754 (omega arith) ∙ ap (λ (h : ℕ). set (stores S mem rec 754) 0 (nextHead S h)) (bytes-head S mem rec 754 (omega arith))
 
   pub slot-fits : slotStart (headOf mem % S) + 754 ≤ length mem
   slot-fits =
@@ -131,9 +125,9 @@ module _ (S : ℕ) (mem rec : List ℕ) (v : IsRing S mem) (e : length rec ≡ 7
       ∙ ap (λ (m : List ℕ). take 754 (drop at m)) (bytes-fill S mem rec 754 (omega arith) slot-fits e)
       ∙ part-pasted 754 at mem rec e slot-fits)
 
--- a valid memory stays valid
-pub valid-bytes : (S : ℕ) (mem rec : List ℕ) (n : ℕ) → n ≤ 754 → IsRing S mem → IsRing S (stores S mem rec n)
-valid-bytes S mem rec n b v =
+-- a ring stays a ring
+pub ring-bytes : (S : ℕ) (mem rec : List ℕ) (n : ℕ) → n ≤ 754 → IsRing S mem → IsRing S (stores S mem rec n)
+ring-bytes S mem rec n b v =
     record {
       two-slots = v .two-slots;
       head-is-byte = v .head-is-byte;
@@ -141,8 +135,8 @@ valid-bytes S mem rec n b v =
       head = rw (bytes-head S mem rec n b) (v .head);
     }
 
-pub valid-whole : (S : ℕ) (mem rec : List ℕ) → length rec ≡ 754 → IsRing S mem → IsRing S (stores S mem rec 755)
-valid-whole S mem rec e v =
+pub ring-whole : (S : ℕ) (mem rec : List ℕ) → length rec ≡ 754 → IsRing S mem → IsRing S (stores S mem rec 755)
+ring-whole S mem rec e v =
     record {
       two-slots = v .two-slots;
       head-is-byte = v .head-is-byte;
@@ -152,11 +146,10 @@ valid-whole S mem rec e v =
 
 -- and so after any one store
 store-last : (S : ℕ) (mem rec : List ℕ) (k : ℕ) → 0 < length mem → 754 ≤ k → headOf (store S mem rec k) ≡ nextHead S (headOf mem)
-unfolding store touched put
-store-last S mem rec k some g = simp (le-ltb k 754 g) (getD-set-same mem 0 (nextHead S (headOf mem)) 0 some)
+store-last S mem rec k some g = rw (store-end S mem rec k g) (getD-set-same mem 0 (nextHead S (headOf mem)) 0 some)
 
-pub valid-store : (S : ℕ) (mem rec : List ℕ) (k : ℕ) → IsRing S mem → IsRing S (store S mem rec k)
-valid-store S mem rec k v =
+pub ring-store : (S : ℕ) (mem rec : List ℕ) (k : ℕ) → IsRing S mem → IsRing S (store S mem rec k)
+ring-store S mem rec k v =
     record {
       two-slots = v .two-slots;
       head-is-byte = v .head-is-byte;

@@ -1,2 +1,5 @@
 pub mod Ring
+pub mod Answers
+pub mod Promises
 pub mod History
+pub mod inner
