@@ -132,6 +132,11 @@ module _ (S : ℕ) (mem rec : List ℕ) (k : ℕ) where
     pub storing-ok : reads rec ≡ true → k < 755 → storing S mem rec k ≡ gives tt
     storing-ok r l = storing-on r ∙ refuse-no _ _ (lt-leb 755 k l)
 
+  -- where store 0 is refused, so is each
+  pub storing-all : {m : ℕ} → k < 755 → storing S mem rec 0 ≡ refuses m → storing S mem rec k ≡ refuses m
+  unfolding storing
+  storing-all l e = ring-same S mem (refuse-same _ _ (λ z. absurd (gives-refuses (sym (refuse-no (numberOf NoSuchNumber) (gives tt) refl) ∙ z)))) e
+
   -- where a store is made, the memory is a ring and the record reads
   pub storing-means : 2 ≤ S → S ≤ 128 → storing S mem rec k ≡ gives tt → IsRing S mem × (reads rec ≡ true) × (k < 755)
   unfolding storing

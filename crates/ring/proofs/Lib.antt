@@ -5,3 +5,8 @@ pub mod Turns
 pub mod Answered
 pub mod AllRead
 pub mod Promised
+pub mod Determined
+pub mod Histories
+pub mod CrashSafe
+pub mod Touched
+pub mod Tails

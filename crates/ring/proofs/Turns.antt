@@ -32,7 +32,7 @@ getD-first S mem (suc n) i b =
     getD-at (firstTurns S mem n) (turnAt S mem n) [] [] i (length-first S mem n ∙ e) ∙ ap (turnAt S mem) e)
     (less-or-not i n)
 
-same-first : (S : ℕ) (mem mem′ : List ℕ) (n : ℕ) → ((i : ℕ) → i < n → turnAt S mem i ≡ turnAt S mem′ i) → firstTurns S mem n ≡ firstTurns S mem′ n
+pub same-first : (S : ℕ) (mem mem′ : List ℕ) (n : ℕ) → ((i : ℕ) → i < n → turnAt S mem i ≡ turnAt S mem′ i) → firstTurns S mem n ≡ firstTurns S mem′ n
 unfolding firstTurns
 same-first S mem mem′ zero f = refl
 same-first S mem mem′ (suc n) f =

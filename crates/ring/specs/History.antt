@@ -21,8 +21,12 @@ after S mem [] = mem
 after S mem (attempt rec n ∷ l) = after S (stores S mem rec n) l
 after S mem (erasure ∷ l) = after S (erased mem) l
 
+-- the turns ts, followed by a record where its last store was made
+abbrev pub tried : List (List ℕ) → List ℕ → ℕ → List (List ℕ)
+tried ts rec n = cond (ltb n 755) ts (ts ++ rec ∷ [])
+
 -- the turns ts held at the start or those since the last erasure, followed by the records whose last store was made
 unfoldable pub kept : List (List ℕ) → List Event → List (List ℕ)
 kept ts [] = ts
-kept ts (attempt rec n ∷ l) = kept (cond (ltb n 755) ts (ts ++ rec ∷ [])) l
+kept ts (attempt rec n ∷ l) = kept (tried ts rec n) l
 kept ts (erasure ∷ l) = kept [] l
