@@ -1,0 +1,240 @@
+//! Comparing the reader of the response stream.
+
+use super::shrink::Smaller;
+use super::{compare, number, Compared, Pair, Plan, FILL_WORD};
+use crate::own::sample::SAMPLE_WORDS;
+use crate::own::{Expected, Outcome, Phase, PlainReader, Reader, Refusal, Stop};
+use crate::{gen, smaller_case, smaller_fields};
+
+/// A reader's state as numbers. All zero is the fresh one.
+#[derive(Clone, Debug, Default, PartialEq)]
+pub struct State {
+    /// 0 idle; 1, 2, 3 seeking samples, info, health; 4, 5, 6 reading them.
+    pub phase: u8,
+    /// The bytes held.
+    pub held: Vec<u8>,
+    /// How many bytes were skipped.
+    pub skipped: u32,
+}
+
+impl State {
+    const PHASES: [Phase; 7] = [
+        Phase::Idle,
+        Phase::Seeking(Expected::Samples),
+        Phase::Seeking(Expected::Info),
+        Phase::Seeking(Expected::Health),
+        Phase::Reading(Expected::Samples),
+        Phase::Reading(Expected::Info),
+        Phase::Reading(Expected::Health),
+    ];
+
+    /// The most bytes held in each phase.
+    pub const LARGEST_HELD: [usize; 7] = [0, 6, 6, 6, 4, 19, 2];
+
+    fn new(phase: Phase, held: &[u8], skipped: u32) -> State {
+        let phase = State::PHASES.iter().position(|&other| other == phase).expect("one of seven");
+        State { phase: phase as u8, held: held.to_vec(), skipped }
+    }
+
+    /// The bench's own reader in this state.
+    pub fn reader(&self) -> Reader {
+        let phase = State::PHASES[usize::from(self.phase)];
+        Reader::at(phase, &self.held, self.skipped).expect("so many are held")
+    }
+}
+
+/// One call, or as many as it takes until all bytes are taken.
+#[derive(Clone, Debug, PartialEq)]
+#[allow(missing_docs)]
+pub enum Step {
+    Tell { code: u8 },
+    Read { bytes: Vec<u8>, room: usize },
+}
+
+/// A stream cut into pieces, from a state on.
+#[derive(Clone, Debug, PartialEq)]
+pub struct Case {
+    /// The state at the beginning.
+    pub state: State,
+    /// The calls.
+    pub steps: Vec<Step>,
+}
+
+impl Smaller for State {
+    fn smaller(&self) -> Box<dyn Iterator<Item = State> + '_> {
+        smaller_fields!(self; held, skipped)
+    }
+}
+
+impl Smaller for Step {
+    fn smaller(&self) -> Box<dyn Iterator<Item = Step> + '_> {
+        match self {
+            Step::Tell { code } => smaller_case!(Step::Tell; code),
+            Step::Read { bytes, room } => smaller_case!(Step::Read; bytes, room),
+        }
+    }
+}
+
+impl Smaller for Case {
+    fn smaller(&self) -> Box<dyn Iterator<Item = Case> + '_> {
+        smaller_fields!(self; steps, state)
+    }
+}
+
+/// What one call gives.
+#[derive(Clone, Debug, PartialEq)]
+#[allow(missing_docs)]
+pub enum Answer {
+    Told { refusal: u8, state: State },
+    Read { taken: usize, words: usize, stop: u8, reply: [u8; 20], row: Vec<u16>, state: State },
+}
+
+/// Runs a case over any reader, given as three closures: tell, read, state.
+///
+/// Bytes not taken are handed over again, from the second call on with room for a sample; a reader
+/// that never comes to an end is left after as many calls as there can be.
+pub fn run<R>(
+    case: &Case,
+    reader: &mut R,
+    tell: impl Fn(&mut R, u8) -> Result<(), Refusal>,
+    read: impl Fn(&mut R, &[u8], &mut [u16]) -> Outcome,
+    state: impl Fn(&R) -> State,
+) -> Vec<Answer> {
+    let mut answers = Vec::new();
+    for step in &case.steps {
+        match step {
+            Step::Tell { code } => {
+                let refusal = number(&tell(reader, *code));
+                answers.push(Answer::Told { refusal, state: state(reader) });
+            }
+            Step::Read { bytes, room } => {
+                let mut rest = bytes.as_slice();
+                let mut room = *room;
+                for _ in 0..bytes.len() + 2 {
+                    let mut row = vec![FILL_WORD; room];
+                    let Outcome { taken, words, stop, reply } = read(reader, rest, &mut row);
+                    let state = state(reader);
+                    answers.push(Answer::Read { taken, words, stop: stop as u8, reply, row, state });
+                    rest = rest.get(taken..).unwrap_or_default();
+                    if rest.is_empty() {
+                        break;
+                    }
+                    room = room.max(SAMPLE_WORDS);
+                }
+            }
+        }
+    }
+    answers
+}
+
+/// The bench's own answers.
+pub fn own(case: &Case) -> Vec<Answer> {
+    run(case, &mut case.state.reader(), Reader::tell, Reader::read, |reader| {
+        State::new(reader.phase(), reader.held(), reader.skipped())
+    })
+}
+
+/// The answers of the reader that goes byte by byte.
+pub fn plain(case: &Case) -> Vec<Answer> {
+    let mut reader = PlainReader::like(&case.state.reader());
+    run(case, &mut reader, PlainReader::tell, PlainReader::read, |reader| {
+        State::new(reader.phase(), reader.held(), reader.skipped())
+    })
+}
+
+/// What a case gives whatever the cuts are.
+#[derive(Clone, Debug, Default, PartialEq)]
+pub struct Gist {
+    /// All words of samples.
+    pub words: Vec<u16>,
+    /// The stops that are not for want of input or room, each with its reply.
+    pub events: Vec<(u8, [u8; 20])>,
+    /// The state after the last call.
+    pub end: State,
+}
+
+/// The gist of all answers to a case.
+pub fn gist(answers: &[Answer]) -> Gist {
+    let mut gist = Gist::default();
+    for answer in answers {
+        match answer {
+            Answer::Told { state, .. } => gist.end = state.clone(),
+            Answer::Read { words, stop, reply, row, state, .. } => {
+                gist.words.extend_from_slice(&row[..*words]);
+                if *stop > Stop::Room as u8 {
+                    gist.events.push((*stop, *reply));
+                }
+                gist.end = state.clone();
+            }
+        }
+    }
+    gist
+}
+
+/// Compares the other program with the bench's own.
+pub fn against(
+    plan: &Plan,
+    other: &mut dyn FnMut(&Case) -> Vec<Answer>,
+) -> Compared<Case, Vec<Answer>> {
+    compare(plan, Pair { part: "reader", make: &gen::stream_case, own: &own, other })
+}
+
+#[cfg(test)]
+mod tests {
+    use super::*;
+
+    #[test]
+    fn the_fast_reader_is_the_plain_one() {
+        let compared = against(&Plan { seed: 5, cases: 60_000 }, &mut plain);
+        assert_eq!(compared.unwrap_or_else(|mismatch| panic!("{mismatch}")), 60_000);
+    }
+
+    #[test]
+    fn cuts_and_rooms_change_nothing() {
+        let whole = |case: &Case| {
+            let mut steps: Vec<Step> = Vec::new();
+            for step in &case.steps {
+                match (steps.last_mut(), step) {
+                    (Some(Step::Read { bytes, .. }), Step::Read { bytes: more, .. }) => {
+                        bytes.extend_from_slice(more);
+                    }
+                    (_, Step::Read { bytes, .. }) => {
+                        steps.push(Step::Read { bytes: bytes.clone(), room: 3_000 });
+                    }
+                    _ => steps.push(step.clone()),
+                }
+            }
+            gist(&own(&Case { state: case.state.clone(), steps }))
+        };
+        let compared = compare(
+            &Plan { seed: 6, cases: 30_000 },
+            Pair {
+                part: "cuts",
+                make: &gen::stream_case,
+                own: &|case: &Case| gist(&own(case)),
+                other: &mut |case| whole(case),
+            },
+        );
+        assert_eq!(compared.unwrap_or_else(|mismatch| panic!("{mismatch}")), 30_000);
+    }
+
+    #[test]
+    fn going_on_at_the_eighth_byte_is_found() {
+        // A reader that misses a descriptor right behind the beginning of another.
+        let read = |reader: &mut Reader, input: &[u8], row: &mut [u16]| {
+            let outcome = reader.read(input, row);
+            let missed = outcome.stop == Stop::Descriptor && input.starts_with(&[0xA5, 0xA5]);
+            Outcome { stop: if missed { Stop::End } else { outcome.stop }, ..outcome }
+        };
+        let mut wrong = |case: &Case| {
+            run(case, &mut case.state.reader(), Reader::tell, read, |reader| {
+                State::new(reader.phase(), reader.held(), reader.skipped())
+            })
+        };
+        let mismatch = against(&Plan { seed: 7, cases: 1_000_000 }, &mut wrong).unwrap_err();
+        let [.., Step::Read { bytes, room: 0 }] = mismatch.case.steps.as_slice() else {
+            panic!("{mismatch}");
+        };
+        assert!(bytes.len() == 8 && mismatch.case.steps.len() <= 2, "{mismatch}");
+    }
+}

@@ -1,0 +1,142 @@
+//! Comparing the gatherer of turns.
+
+use super::shrink::Smaller;
+use super::{compare, number, Compared, Pair, Plan};
+use crate::own::{Angle, Distance, Gatherer, Sample, Turn};
+use crate::{gen, smaller_case, smaller_fields};
+
+/// One call, or as many as it takes until a row is taken.
+#[derive(Clone, Debug, PartialEq)]
+#[allow(missing_docs)]
+pub enum Step {
+    Sample { start: bool, quality: u8, angle: u16, distance: u16 },
+    Row { words: Vec<u16> },
+    /// So many samples alike, one by one behind each other in one row.
+    Repeat { sample: [u16; 3], count: usize },
+    RequestTold,
+}
+
+/// Calls to a fresh gatherer.
+#[derive(Clone, Debug, PartialEq)]
+pub struct Case {
+    /// The calls.
+    pub steps: Vec<Step>,
+}
+
+impl Smaller for Step {
+    fn smaller(&self) -> Box<dyn Iterator<Item = Step> + '_> {
+        match self {
+            Step::Sample { start, quality, angle, distance } => {
+                smaller_case!(Step::Sample; start, quality, angle, distance)
+            }
+            Step::Row { words } => smaller_case!(Step::Row; words),
+            Step::Repeat { sample, count } => smaller_case!(Step::Repeat; count, sample),
+            Step::RequestTold => Box::new(std::iter::empty()),
+        }
+    }
+}
+
+impl Smaller for Case {
+    fn smaller(&self) -> Box<dyn Iterator<Item = Case> + '_> {
+        smaller_fields!(self; steps)
+    }
+}
+
+/// What one call gives.
+#[derive(Clone, Debug, Default, PartialEq)]
+pub struct Answer {
+    /// The number of the refusal, 0 for none.
+    pub refusal: u8,
+    /// How many words were taken.
+    pub words: usize,
+    /// The turn that was closed: its samples and its cells.
+    pub closed: Option<(u16, Vec<u16>)>,
+    /// The samples of the turn that is open after the call, 0 where none is.
+    pub open: u16,
+}
+
+/// The bench's own answers.
+pub fn own(case: &Case) -> Vec<Answer> {
+    let mut gatherer = Gatherer::new();
+    let mut answers = Vec::new();
+    for step in &case.steps {
+        match *step {
+            Step::Sample { start, quality, angle, distance } => {
+                let (angle, distance) = (Angle::from_q6(angle), Distance::from_q2(distance));
+                let sample = Sample { start, quality, angle, distance };
+                let mut turn = Turn::EMPTY;
+                let closes = gatherer.sample(&sample, &mut turn);
+                let words = if closes.is_ok() { 3 } else { 0 };
+                let closed = (closes == Ok(true)).then_some(turn);
+                answers.push(answer(number(&closes), words, closed, &gatherer));
+            }
+            Step::Row { ref words } => rows(&mut gatherer, words, &mut answers),
+            Step::Repeat { ref sample, count } => {
+                rows(&mut gatherer, &sample.repeat(count), &mut answers);
+            }
+            Step::RequestTold => {
+                gatherer.request_told();
+                answers.push(answer(0, 0, None, &gatherer));
+            }
+        }
+    }
+    answers
+}
+
+fn rows(gatherer: &mut Gatherer, mut words: &[u16], answers: &mut Vec<Answer>) {
+    loop {
+        let mut turn = Turn::EMPTY;
+        let gathered = gatherer.row(words, &mut turn);
+        let taken = gathered.map_or(0, |gathered| gathered.words);
+        let closed = gathered.is_ok_and(|gathered| gathered.closed).then_some(turn);
+        answers.push(answer(number(&gathered), taken, closed, gatherer));
+        words = &words[taken..];
+        if taken == 0 || words.is_empty() {
+            break;
+        }
+    }
+}
+
+fn answer(refusal: u8, words: usize, closed: Option<Turn>, gatherer: &Gatherer) -> Answer {
+    let plain = |turn: Turn| (turn.samples, turn.cells.iter().map(|cell| cell.q2()).collect());
+    let open = gatherer.open_samples();
+    Answer { refusal, words, closed: closed.map(plain), open }
+}
+
+/// Compares the other program with the bench's own.
+pub fn against(
+    plan: &Plan,
+    other: &mut dyn FnMut(&Case) -> Vec<Answer>,
+) -> Compared<Case, Vec<Answer>> {
+    compare(plan, Pair { part: "turns", make: &gen::turns_case, own: &own, other })
+}
+
+#[cfg(test)]
+mod tests {
+    use super::*;
+
+    #[test]
+    fn the_same_program_agrees() {
+        assert_eq!(against(&Plan { seed: 8, cases: 5_000 }, &mut own).unwrap(), 5_000);
+    }
+
+    #[test]
+    fn a_zero_taken_as_the_nearest_is_found() {
+        let mut wrong = |case: &Case| {
+            let mut answers = own(case);
+            let zero = case.steps.iter().any(|step| match step {
+                Step::Row { words } => words.chunks(3).any(|s| s.len() == 3 && s[1] == 0),
+                _ => false,
+            });
+            if zero {
+                for (_, cells) in answers.iter_mut().filter_map(|answer| answer.closed.as_mut()) {
+                    cells[0] = 0;
+                }
+            }
+            answers
+        };
+        let mismatch = against(&Plan { seed: 8, cases: 100_000 }, &mut wrong).unwrap_err();
+        let samples: usize = mismatch.own.iter().map(|answer| answer.words / 3).sum();
+        assert!(samples <= 4, "{mismatch}");
+    }
+}

@@ -1,0 +1,5 @@
+//! The bench: its own program for paper 01, generators of inputs, and the comparison of two programs.
+
+pub mod compare;
+pub mod gen;
+pub mod own;
