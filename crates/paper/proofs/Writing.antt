@@ -1,12 +1,14 @@
 -- How a writer's promise is met: `writes-all`, `writes-short`, `writes-refused`; and of words put at a place: `put-done`, `put-short`.
 use Prim.Native.Nat.{ℕ, suc, _+_, _-_, _<_, _≤_}
-use mathlib.Core.Path.{_≡_, refl, sym, ap, _∙_}
-use mathlib.Core.List.{List, [], _∷_, _++_}
+use mathlib.Core.Path.{_≡_, refl, sym, ap, ap₂, _∙_}
+use mathlib.Core.List.{List, [], _∷_, _++_, append-nil, append-assoc}
 use native.Mathlib.Omega.{arith}
+use native.Mathlib.Nat.{le-refl}
 use lib.Dec.{ltb}
 use native.Mathlib.Numerals.{add-one}
-use lib.ListN.{length, take, drop, set, getD}
-use lib.Seq.{take-length, sets, sets-eq, paste, paste-suc}
+use lib.ListN.{length, take, drop, set, getD, length-append, length-drop, drop-of-length-le}
+use lib.Seq.{take-length, take-all, take-append-seam, drop-append-seam, drop-drop, sets, sets-eq, paste, paste-suc}
+use borrow.Rule.Slice.PartMut.{midOf, postOf, putMid}
 use borrow.Author.Tests.{lt-ltb, le-ltb}
 use Rattle.paper.specs.Outcome.{Outcome, gives, refuses, refuseIf, ifGiven, mapped}
 use Rattle.paper.specs.Refusals.{numberOf, answered, written}
@@ -52,6 +54,20 @@ writes-refused q was = record { answer = refl; output = refl }
 pub writes-same : {o p : Outcome (List ℕ)} {was : List ℕ} {r : Written} {is : List ℕ} → o ≡ p → Writes o was r is → Writes p was r is
 writes-same e w = rw e at w
 
+-- a writer that refuses, and one that hands other words for the same bytes on
+pub writes-no : {o : Outcome (List ℕ)} {q : Refusal} {was : List ℕ} → o ≡ refuses (numberOf q) → Writes o was (writing.Refused q) was
+writes-no {q = q} {was = was} e = writes-same (sym e) (writes-refused q was)
+
+pub writes-yes : {o : Outcome (List ℕ)} {xs ys was : List ℕ} {r : Written} {is : List ℕ} → o ≡ gives xs → ys ≡ xs → Writes (gives ys) was r is → Writes o was r is
+writes-yes e q w = writes-same (sym (e ∙ ap gives (sym q))) w
+
+-- stores one after the other at the front
+pub stores-front : (xs was : List ℕ) → length xs ≤ length was → sets was 0 xs ≡ over was xs
+unfolding over
+stores-front xs was h =
+    let z : 0 + length xs ≡ length xs = omega arith in
+    sets-eq xs was 0 (omega arith) ∙ rw z
+
 -- ---- a copy to the front of an output, byte by byte
 
 pub copy-step : (was out xs : List ℕ) (i : ℕ) → length xs ≤ length was → i < length xs → out ≡ paste was 0 xs i → set out i (getD xs i 0) ≡ paste was 0 xs (i + 1)
@@ -64,6 +80,45 @@ unfolding over
 copy-end was out xs i q e =
     let z : 0 + length xs ≡ length xs = omega arith in
     e ∙ rw (q, take-length, z)
+
+-- ---- one list behind the other
+
+-- what a writer with room leaves
+pub written-over : (xs was is : List ℕ) (r : Written) → length xs ≤ length was → Writes (gives xs) was r is → is ≡ over was xs
+unfolding ifGiven
+written-over xs was is r h w = rw (fitting-yes xs (length was) h) at (w .output)
+
+pub length-over : (xs was : List ℕ) → length xs ≤ length was → length (over was xs) ≡ length was
+unfolding over
+length-over xs was h = simp (length-append, length-drop) (omega arith)
+
+-- the head is written, and then the tail into the part behind it
+pub both-written : (head tail was mid is : List ℕ) (r s : Written) → length head ≤ length was → length tail ≤ length was - length head
+    → Writes (gives head) was r mid → Writes (gives tail) (midOf (length head) (length mid - length head) mid) s is
+    → Writes (gives (head ++ tail)) was (writing.Bytes (length head + length tail)) (putMid (length head) (length mid - length head) mid is)
+both-written head tail was mid is r s h t w v =
+    let m : mid ≡ over was head = written-over head was mid r h w in
+    let l : length mid ≡ length was = ap length m ∙ length-over head was h in
+    let part : midOf (length head) (length mid - length head) mid ≡ drop (length head) was =
+    take-all (length mid - length head) (drop (length head) mid) (simp length-drop (le-refl _)) ∙ behind m in
+    let i : is ≡ over (drop (length head) was) tail =
+    written-over tail (drop (length head) was) is s (simp length-drop (omega arith)) (rw part at v) in
+    writes-all (head ++ tail) was _ _ (simp length-append (omega arith)) (sym (length-append head tail)) (whole m l i)
+  where
+    behind : mid ≡ over was head → drop (length head) mid ≡ drop (length head) was
+    behind m = ap (drop (length head)) m ∙ (unfold over in (drop-append-seam head (drop (length head) was)))
+
+    front : mid ≡ over was head → take (length head) mid ≡ head
+    front m = ap (take (length head)) m ∙ (unfold over in (take-append-seam head (drop (length head) was)))
+
+    none : length mid ≡ length was → postOf (length head) (length mid - length head) mid ≡ []
+    none l = drop-of-length-le (drop (length head) mid) {i = length mid - length head} (simp length-drop (le-refl _))
+
+    whole : mid ≡ over was head → length mid ≡ length was → is ≡ over (drop (length head) was) tail
+        → putMid (length head) (length mid - length head) mid is ≡ over was (head ++ tail)
+    whole m l i =
+        ap₂ (λ (a b : List ℕ). a ++ b) (front m) (ap₂ (λ (a b : List ℕ). a ++ b) i (none l) ∙ append-nil (over (drop (length head) was) tail))
+        ∙ (unfold over in (rw (drop-drop, length-append, append-assoc)))
 
 -- ---- words at a place
 

@@ -1,0 +1,4 @@
+pub mod Samples
+pub mod Descriptors
+pub mod Replies
+pub mod Requests
