@@ -4,3 +4,4 @@ pub mod Words
 pub mod Xor
 pub mod Writing
 pub mod Determined
+pub mod Placing

@@ -2,6 +2,8 @@ pub mod Parts
 pub mod Fields
 pub mod Cells
 pub mod Places
+pub mod Putting
+pub mod Writing
 pub mod Reading
 pub mod Answers
 pub mod Determined

@@ -2,4 +2,6 @@
 mod count;
 mod field;
 mod place;
+mod put;
 pub mod read;
+pub mod write;
