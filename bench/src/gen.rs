@@ -497,6 +497,13 @@ pub fn collector_case(rng: &mut Rng) -> collector::Case {
         _ => rng.below(20_000) as u64,
     };
     let mut began = time;
+    let mut state = collector::State::default();
+    if rng.one_in(3) {
+        state = collector_state(rng, time);
+        if !state.packet.is_empty() {
+            began = state.began;
+        }
+    }
     let pace = rng.below(4);
     let bytes = stream.into_iter().map(|byte| {
         let now = match rng.below(16) {
@@ -517,12 +524,26 @@ pub fn collector_case(rng: &mut Rng) -> collector::Case {
         }
         (byte, now)
     });
-    collector::Case { bytes: bytes.collect() }
+    collector::Case { bytes: bytes.collect(), state }
+}
+
+/// A state of a collector that took its last byte at a given time.
+pub fn collector_state(rng: &mut Rng, last: u64) -> collector::State {
+    let size = rng.below(6);
+    let mut packet = vec![0xA5, rng.byte() | 0x80, size as u8];
+    packet.extend(rng.bytes(size));
+    packet.truncate(rng.below(packet.len() + 1));
+    let ago = match rng.below(3) {
+        0 => rng.pick(&[0, 1, 4_999, 5_000, 5_001]),
+        _ => rng.below(6_000) as u64,
+    };
+    let began = if packet.is_empty() { 0 } else { last.saturating_sub(ago) };
+    collector::State { last, began, packet }
 }
 
 /// Calls to a model.
 pub fn model_case(rng: &mut Rng) -> model::Case {
-    use model::{Case, Step};
+    use model::{Case, State, Step};
     let steps = (0..1 + rng.below(16)).map(|_| match rng.below(16) {
         0 => Step::Fault,
         1 | 2 => Step::MotorStable { stable: rng.one_in(2) },
@@ -547,7 +568,14 @@ pub fn model_case(rng: &mut Rng) -> model::Case {
             Step::Request { code, room: room(rng, needed) }
         }
     });
-    Case { steps: steps.collect(), info: rng.array() }
+    let steps = steps.collect();
+    let mut state = State::default();
+    if rng.one_in(2) {
+        let doing = rng.below(4) as u8;
+        let (stable, status) = (rng.one_in(2), rng.below(2) as u8);
+        state = State { doing, stable, status, error: edge_word(rng) };
+    }
+    Case { state, steps, info: rng.array() }
 }
 
 /// A state of a reader with bytes held that it can hold.
@@ -600,7 +628,7 @@ pub fn stream_case(rng: &mut Rng) -> stream::Case {
 
 /// Samples one by one and in rows, with turns short, long, and too long.
 pub fn turns_case(rng: &mut Rng) -> turns::Case {
-    use turns::{Case, Step};
+    use turns::{Case, Open, Step};
     let word_sample = |rng: &mut Rng| {
         let sample = fit_sample(rng);
         // Few cells and few distances, so that samples meet in a cell.
@@ -643,7 +671,14 @@ pub fn turns_case(rng: &mut Rng) -> turns::Case {
         }
         _ => Step::Row { words: (0..rng.below(60)).flat_map(|_| word_sample(rng)).collect() },
     });
-    Case { steps: steps.collect() }
+    let steps = steps.collect();
+    let mut open = Open::default();
+    if rng.one_in(3) {
+        open.samples = rng.pick(&[1, 2, 360, 8_190, 8_191, 8_192]);
+        let cells = rng.below(6);
+        open.cells = (0..cells).map(|_| (rng.below(360) as u16, edge_word(rng))).collect();
+    }
+    Case { open, steps }
 }
 
 /// A ring image with any head and slots right, one byte off and full of garbage.
@@ -732,7 +767,7 @@ mod tests {
             let mut rng = Rng::of_case(1, number);
             seen.insert(codec::own(&codec_case(&mut rng)).refusal);
             seen.extend(session::own(&session_case(&mut rng)).iter().map(|a| a.refusal));
-            seen.extend(collector::own(&collector_case(&mut rng)).iter().map(|a| a.0));
+            seen.extend(collector::own(&collector_case(&mut rng)).iter().map(|a| a.refusal));
             seen.extend(model::own(&model_case(&mut rng)).iter().map(|a| a.refusal));
             if number % 10 == 0 {
                 seen.insert(ring::own(&ring_case(&mut rng)).refusal);
@@ -772,8 +807,8 @@ mod tests {
         let mut largest = 0;
         for number in 0..2_000 {
             let mut rng = Rng::of_case(3, number);
-            for (_, packet) in collector::own(&collector_case(&mut rng)) {
-                if let Some((_, payload)) = packet {
+            for answer in collector::own(&collector_case(&mut rng)) {
+                if let Some((_, payload)) = answer.packet {
                     packets += 1;
                     with_payload += usize::from(!payload.is_empty());
                 }

@@ -1,48 +1,86 @@
 //! Comparing the device's collector of requests.
 
-use super::shrink::Smaller;
+use super::shrink::{earlier, Smaller};
 use super::{compare, number, Compared, Pair, Plan};
 use crate::own::Collector;
 use crate::{gen, smaller_fields};
 
-/// Bytes with their times, handed to a fresh collector.
+/// A collector's state. Empty is the fresh one.
+#[derive(Clone, Debug, Default, PartialEq)]
+pub struct State {
+    /// The time of the last byte accepted, 0 for none.
+    pub last: u64,
+    /// The time of the packet's first byte, 0 where none is begun.
+    pub began: u64,
+    /// The bytes of the packet begun.
+    pub packet: Vec<u8>,
+}
+
+impl State {
+    /// The bench's own collector in this state, where there is one.
+    pub fn collector(&self) -> Option<Collector> {
+        Collector::at(self.last, self.began, &self.packet)
+    }
+}
+
+/// Bytes with their times, from a state on.
 #[derive(Clone, Debug, PartialEq)]
 pub struct Case {
+    /// The state at the beginning.
+    pub state: State,
     /// The bytes, each with its time.
     pub bytes: Vec<(u8, u64)>,
 }
 
+impl Smaller for State {
+    fn smaller(&self) -> Box<dyn Iterator<Item = State> + '_> {
+        let states: Box<dyn Iterator<Item = State>> = smaller_fields!(self; packet, began, last);
+        Box::new(states.filter(|state| state.collector().is_some()))
+    }
+}
+
 impl Smaller for Case {
     fn smaller(&self) -> Box<dyn Iterator<Item = Case> + '_> {
-        let fields: Box<dyn Iterator<Item = Case>> = smaller_fields!(self; bytes);
+        let fields: Box<dyn Iterator<Item = Case>> = smaller_fields!(self; bytes, state);
         Box::new(fields.chain(self.earlier()))
     }
 }
 
 impl Case {
-    /// All times earlier by the same.
+    /// All times but 0 earlier by the same.
     fn earlier(&self) -> impl Iterator<Item = Case> + '_ {
-        let earliest = self.bytes.iter().map(|&(_, now)| now).min().unwrap_or(0);
-        let earlier: Vec<u64> = earliest.smaller().collect();
-        earlier.into_iter().map(move |less| {
+        let times = self.bytes.iter().map(|&(_, now)| now);
+        earlier(times.chain([self.state.last, self.state.began])).map(move |by| {
             let mut case = self.clone();
-            case.bytes.iter_mut().for_each(|(_, now)| *now -= earliest - less);
+            let times = case.bytes.iter_mut().map(|(_, now)| now);
+            for time in times.chain([&mut case.state.last, &mut case.state.began]) {
+                *time = time.saturating_sub(by);
+            }
             case
         })
     }
 }
 
-/// What one byte gives: the number of the refusal, 0 for none, and the packet that it completes.
-pub type Answer = (u8, Option<(u8, Vec<u8>)>);
+/// What one byte gives.
+#[derive(Clone, Debug, PartialEq)]
+pub struct Answer {
+    /// The number of the refusal, 0 for none.
+    pub refusal: u8,
+    /// The packet that the byte completes: its code and its payload.
+    pub packet: Option<(u8, Vec<u8>)>,
+    /// The state after the byte.
+    pub state: State,
+}
 
 /// The bench's own answers, one for each byte.
 pub fn own(case: &Case) -> Vec<Answer> {
-    let mut collector = Collector::new();
+    let mut collector = case.state.collector().expect("a beginning of a packet");
     let answers = case.bytes.iter().map(|&(byte, now)| {
         let answer = collector.push(byte, now);
         let refusal = number(&answer);
-        let packet = answer.ok().flatten();
-        (refusal, packet.map(|packet| (packet.code, packet.payload.to_vec())))
+        let packet = answer.ok().flatten().map(|packet| (packet.code, packet.payload.to_vec()));
+        let (last, began) = (collector.last(), collector.began().unwrap_or(0));
+        Answer { refusal, packet, state: State { last, began, packet: collector.packet() } }
     });
     answers.collect()
 }
@@ -74,12 +112,15 @@ mod tests {
             }
             own(&case)
         };
+        let packets = |answers: Vec<Answer>| -> Vec<_> {
+            answers.into_iter().map(|answer| answer.packet).collect()
+        };
         let late = |case: &Case| case.bytes.iter().any(|&(_, now)| now > u64::MAX / 2);
         let pair = Pair {
             part: "collector",
-            make: &gen::collector_case,
-            own: &|case: &Case| if late(case) { Vec::new() } else { own(case) },
-            other: &mut |case| if late(case) { Vec::new() } else { wrong(case) },
+            make: &|rng| Case { state: State::default(), ..gen::collector_case(rng) },
+            own: &|case: &Case| if late(case) { Vec::new() } else { packets(own(case)) },
+            other: &mut |case| if late(case) { Vec::new() } else { packets(wrong(case)) },
         };
         let mismatch = compare(&Plan { seed: 3, cases: 1_000_000 }, pair).unwrap_err();
         assert_eq!(mismatch.case.bytes, [(0xA5, 0), (0, 5_000)], "{mismatch}");

@@ -18,13 +18,59 @@ pub enum Step {
     Health { status: u8, error: u16 },
 }
 
-/// Calls to a fresh scanner with a given info reply.
+/// A scanner's state as numbers. All zero is the fresh one.
+#[derive(Clone, Copy, Debug, Default, PartialEq)]
+pub struct State {
+    /// 0 idle, 1 scanning after SCAN, 2 scanning after FORCE_SCAN, 3 protection stop.
+    pub doing: u8,
+    /// Whether the motor is stable.
+    pub stable: bool,
+    /// The status that the bench set, 0 or 1.
+    pub status: u8,
+    /// The error code.
+    pub error: u16,
+}
+
+impl State {
+    const DOING: [own::State; 4] = [
+        own::State::Idle,
+        own::State::Scanning { forced: false },
+        own::State::Scanning { forced: true },
+        own::State::Protection,
+    ];
+
+    fn of(model: &Model) -> State {
+        let doing = State::DOING.iter().position(|&doing| doing == model.state());
+        State {
+            doing: doing.expect("one of four") as u8,
+            stable: model.motor_stable(),
+            status: model.set_to(),
+            error: model.health().error,
+        }
+    }
+
+    fn model(&self, info: &[u8; 20]) -> Model {
+        let info = Info::read(info).expect("twenty bytes");
+        let doing = State::DOING[usize::from(self.doing)];
+        Model::at(doing, self.stable, self.status, self.error, info).expect("a status to be set")
+    }
+}
+
+/// Calls to a scanner with a given info reply, from a state on.
 #[derive(Clone, Debug, PartialEq)]
 pub struct Case {
+    /// The state at the beginning.
+    pub state: State,
     /// The info reply.
     pub info: [u8; 20],
     /// The calls.
     pub steps: Vec<Step>,
+}
+
+impl Smaller for State {
+    fn smaller(&self) -> Box<dyn Iterator<Item = State> + '_> {
+        smaller_fields!(self; doing, stable, status, error)
+    }
 }
 
 impl Smaller for Step {
@@ -45,7 +91,7 @@ impl Smaller for Step {
 
 impl Smaller for Case {
     fn smaller(&self) -> Box<dyn Iterator<Item = Case> + '_> {
-        smaller_fields!(self; steps, info)
+        smaller_fields!(self; steps, state, info)
     }
 }
 
@@ -58,13 +104,13 @@ pub struct Answer {
     pub sent: usize,
     /// The output lent, whole, after the call.
     pub out: Vec<u8>,
-    /// The state after the call: 0 idle, 1 scanning, 2 protection stop.
-    pub state: u8,
+    /// The state after the call.
+    pub state: State,
 }
 
 /// The bench's own answers, one for each step.
 pub fn own(case: &Case) -> Vec<Answer> {
-    let mut model = Model::new(Info::read(&case.info).expect("twenty bytes"));
+    let mut model = case.state.model(&case.info);
     let answers = case.steps.iter().map(|step| {
         let mut out = Vec::new();
         let sent = match *step {
@@ -92,11 +138,7 @@ pub fn own(case: &Case) -> Vec<Answer> {
             }
             Step::Health { status, error } => model.set_health(status, error).map(|()| 0),
         };
-        let state = match model.state() {
-            own::State::Idle => 0,
-            own::State::Scanning { .. } => 1,
-            own::State::Protection => 2,
-        };
+        let state = State::of(&model);
         Answer { refusal: number(&sent), sent: sent.unwrap_or(0), out, state }
     });
     answers.collect()
@@ -131,6 +173,7 @@ mod tests {
             own(&case)
         };
         let mismatch = against(&Plan { seed: 4, cases: 1_000 }, &mut wrong).unwrap_err();
-        assert_eq!(mismatch.case, Case { info: [0; 20], steps: vec![Step::Fault] });
+        let (state, info) = (State::default(), [0; 20]);
+        assert_eq!(mismatch.case, Case { state, info, steps: vec![Step::Fault] });
     }
 }

@@ -1,6 +1,6 @@
 //! Comparing the host's session.
 
-use super::shrink::Smaller;
+use super::shrink::{earlier, Smaller};
 use super::{compare, number, Compared, Pair, Plan, FILL};
 use crate::own::Session;
 use crate::{gen, smaller_case, smaller_fields};
@@ -58,20 +58,18 @@ impl Smaller for Case {
 }
 
 impl Case {
-    /// All times earlier by the same.
+    /// All times but 0 earlier by the same.
     fn earlier(&self) -> impl Iterator<Item = Case> + '_ {
         let times = self.steps.iter().filter_map(|step| match step {
             Step::Request { now, .. } => Some(*now),
             Step::ReplyEnded => None,
         });
-        let earliest = times.fold(self.state.last, u64::min);
-        let earlier: Vec<u64> = earliest.smaller().collect();
-        earlier.into_iter().map(move |less| {
+        earlier(times.chain([self.state.last])).map(move |by| {
             let mut case = self.clone();
-            case.state.last -= earliest - less;
+            case.state.last = case.state.last.saturating_sub(by);
             for step in &mut case.steps {
                 if let Step::Request { now, .. } = step {
-                    *now -= earliest - less;
+                    *now = now.saturating_sub(by);
                 }
             }
             case

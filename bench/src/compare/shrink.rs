@@ -79,6 +79,13 @@ impl<A: Smaller, B: Smaller> Smaller for (A, B) {
     }
 }
 
+/// By how much times can all be made earlier so that the earliest, 0 aside, becomes a smaller one.
+pub fn earlier(times: impl Iterator<Item = u64>) -> impl Iterator<Item = u64> {
+    let earliest = times.filter(|&time| time > 0).min().unwrap_or(0);
+    let smaller: Vec<u64> = earliest.smaller().collect();
+    smaller.into_iter().map(move |time| earliest - time)
+}
+
 /// Makes a struct smaller: each named field in turn, the others as they are.
 #[macro_export]
 macro_rules! smaller_fields {
@@ -129,6 +136,12 @@ mod tests {
         assert_eq!(200u16.smaller().collect::<Vec<_>>(), [0, 100, 199]);
         assert_eq!(true.smaller().collect::<Vec<_>>(), [false]);
         assert_eq!(false.smaller().count(), 0);
+    }
+
+    #[test]
+    fn times() {
+        assert_eq!(earlier([0, 9, 8].into_iter()).collect::<Vec<_>>(), [8, 4, 1]);
+        assert_eq!(earlier([0, 0].into_iter()).count(), 0);
     }
 
     #[test]

@@ -16,11 +16,38 @@ pub enum Step {
     RequestTold,
 }
 
-/// Calls to a fresh gatherer.
+/// A turn in few words: its samples, and the cells that are not zero.
+#[derive(Clone, Debug, Default, PartialEq)]
+pub struct Open {
+    /// How many samples it has, 0 where no turn is open.
+    pub samples: u16,
+    /// Cells below 360 and their distances, the later over the earlier.
+    pub cells: Vec<(u16, u16)>,
+}
+
+impl Open {
+    fn gatherer(&self) -> Gatherer {
+        let mut turn = Turn { samples: self.samples, ..Turn::EMPTY };
+        for &(cell, q2) in &self.cells {
+            turn.cells[usize::from(cell)] = Distance::from_q2(q2);
+        }
+        Gatherer::at(&turn).unwrap_or_default()
+    }
+}
+
+/// Calls to a gatherer, with a turn open or not.
 #[derive(Clone, Debug, PartialEq)]
 pub struct Case {
+    /// The turn open at the beginning.
+    pub open: Open,
     /// The calls.
     pub steps: Vec<Step>,
+}
+
+impl Smaller for Open {
+    fn smaller(&self) -> Box<dyn Iterator<Item = Open> + '_> {
+        smaller_fields!(self; samples, cells)
+    }
 }
 
 impl Smaller for Step {
@@ -38,7 +65,7 @@ impl Smaller for Step {
 
 impl Smaller for Case {
     fn smaller(&self) -> Box<dyn Iterator<Item = Case> + '_> {
-        smaller_fields!(self; steps)
+        smaller_fields!(self; steps, open)
     }
 }
 
@@ -51,13 +78,13 @@ pub struct Answer {
     pub words: usize,
     /// The turn that was closed: its samples and its cells.
     pub closed: Option<(u16, Vec<u16>)>,
-    /// The samples of the turn that is open after the call, 0 where none is.
-    pub open: u16,
+    /// The turn that is open after the call.
+    pub open: Option<(u16, Vec<u16>)>,
 }
 
 /// The bench's own answers.
 pub fn own(case: &Case) -> Vec<Answer> {
-    let mut gatherer = Gatherer::new();
+    let mut gatherer = case.open.gatherer();
     let mut answers = Vec::new();
     for step in &case.steps {
         match *step {
@@ -99,7 +126,7 @@ fn rows(gatherer: &mut Gatherer, mut words: &[u16], answers: &mut Vec<Answer>) {
 
 fn answer(refusal: u8, words: usize, closed: Option<Turn>, gatherer: &Gatherer) -> Answer {
     let plain = |turn: Turn| (turn.samples, turn.cells.iter().map(|cell| cell.q2()).collect());
-    let open = gatherer.open_samples();
+    let open = gatherer.open_turn().map(plain);
     Answer { refusal, words, closed: closed.map(plain), open }
 }
 
@@ -137,6 +164,6 @@ mod tests {
         };
         let mismatch = against(&Plan { seed: 8, cases: 100_000 }, &mut wrong).unwrap_err();
         let samples: usize = mismatch.own.iter().map(|answer| answer.words / 3).sum();
-        assert!(samples <= 4, "{mismatch}");
+        assert!(samples <= 4 && mismatch.case.steps.len() <= 2, "{mismatch}");
     }
 }

@@ -68,6 +68,20 @@ impl Collector {
         }
     }
 
+    /// A collector that took its last byte at `last`, with a packet begun at `began` of which these
+    /// bytes are there: none where no packet is begun. Nothing where they are no beginning of one.
+    pub fn at(last: u64, began: u64, packet: &[u8]) -> Option<Collector> {
+        let mut collector = Collector::new();
+        for &byte in packet {
+            let complete = collector.push(byte, began).ok()?.is_some();
+            if complete || collector.stage == Stage::Start {
+                return None;
+            }
+        }
+        collector.last = last;
+        (packet.is_empty() || began <= last).then_some(collector)
+    }
+
     /// Which byte of a packet comes next.
     pub fn stage(&self) -> Stage {
         self.stage
@@ -81,6 +95,20 @@ impl Collector {
     /// Time of the first byte of the packet begun, where one is.
     pub fn began(&self) -> Option<u64> {
         (self.stage != Stage::Start).then_some(self.began)
+    }
+
+    /// The bytes of the packet begun, empty where none is.
+    pub fn packet(&self) -> Vec<u8> {
+        let mut bytes = vec![START, self.code, self.size];
+        match self.stage {
+            Stage::Start => bytes.clear(),
+            Stage::Code => bytes.truncate(1),
+            Stage::Size => bytes.truncate(2),
+            Stage::Payload | Stage::Checksum => {
+                bytes.extend_from_slice(&self.payload[..usize::from(self.got)]);
+            }
+        }
+        bytes
     }
 
     /// Takes one byte with its time, and answers the packet that it completes, if it does.
@@ -231,6 +259,29 @@ mod tests {
             bytes.extend([(0xA5, 5_011), (0x40, 5_011)]);
             assert_eq!(run(&bytes), [(late + 1, 0x40, vec![])]);
         }
+    }
+
+    #[test]
+    fn a_given_state_goes_on() {
+        let packet = [0xA5, 0x82, 0x02, 7, 8, 0xA5 ^ 0x82 ^ 2 ^ 7 ^ 8];
+        for count in 0..packet.len() {
+            let (before, after) = packet.split_at(count);
+            let mut collector = Collector::at(90, 40, before).unwrap();
+            assert_eq!(collector.packet(), before);
+            assert_eq!(collector.began(), (count > 0).then_some(40));
+            assert_eq!(collector.push(0, 89), Err(Refusal::Earlier));
+            let (last, middle) = after.split_last().unwrap();
+            for &byte in middle {
+                assert_eq!(collector.push(byte, 5_040), Ok(None));
+            }
+            let whole = Packet { code: 0x82, payload: &[7, 8] };
+            assert_eq!(collector.push(*last, 5_040), Ok(Some(whole)));
+        }
+        assert_eq!(Collector::at(90, 40, &packet), None);
+        assert_eq!(Collector::at(90, 40, &[0xA5, 0x25]), None);
+        assert_eq!(Collector::at(90, 40, &[0x25]), None);
+        assert_eq!(Collector::at(39, 40, &[0xA5]), None);
+        assert!(Collector::at(39, 40, &[]).is_some());
     }
 
     #[test]

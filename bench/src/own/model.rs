@@ -40,9 +40,25 @@ impl Model {
         Model { state: State::Idle, motor_stable: false, status: 0, error: 0, info }
     }
 
+    /// A scanner in a given state with a status that the bench may set.
+    pub fn at(state: State, motor_stable: bool, status: u8, error: u16, info: Info) -> Option<Model> {
+        let model = Model { state, motor_stable, status, error, info };
+        (status <= LARGEST_SETTING).then_some(model)
+    }
+
     /// What the scanner is doing.
     pub fn state(&self) -> State {
         self.state
+    }
+
+    /// Whether the bench said that the motor is stable.
+    pub fn motor_stable(&self) -> bool {
+        self.motor_stable
+    }
+
+    /// The status that the bench set, whether or not there is a protection stop.
+    pub fn set_to(&self) -> u8 {
+        self.status
     }
 
     /// The health that the scanner would answer with.
@@ -159,7 +175,8 @@ mod tests {
     }
 
     fn in_state(state: State) -> Model {
-        Model { state, ..Model::new(info()) }
+        assert_eq!(Model::at(state, false, 2, 0, info()), None);
+        Model::at(state, false, 0, 0, info()).unwrap()
     }
 
     const STATES: [State; 4] = [
