@@ -4,7 +4,7 @@ use mathlib.Core.Path.{_≡_, refl, ap, _∙_}
 use mathlib.Core.List.{List, [], _∷_, _++_}
 use native.Mathlib.Omega.{arith}
 use native.Mathlib.Nat.{pow-suc}
-use lib.ListN.{length}
+use lib.ListN.{length, getD}
 use Rattle.paper.specs.Words.{valueOf, bytesOf, Each, Bytes}
 
 pub length-bytes : (w v : ℕ) → length (bytesOf w v) ≡ w
@@ -47,3 +47,19 @@ pub each-append : {A : Type 0} (P : A → Type 0) (xs ys : List A) → Each P xs
 unfolding Each
 each-append P [] ys a b = b
 each-append P (x ∷ xs) ys a b = (a .0, each-append P xs ys (a .1) b)
+
+-- what stands at any place is a byte
+pub byte-at : (xs : List ℕ) → Bytes xs → (i : ℕ) → getD xs i 0 < 256
+unfolding Each
+byte-at [] h i = omega arith
+byte-at (b ∷ xs) h zero = h .0
+byte-at (b ∷ xs) h (suc i) = byte-at xs (h .1) i
+
+-- of two and of four bytes that are written out
+pub two-bytes : (a b : ℕ) → a < 256 → b < 256 → bytesOf 2 (valueOf (a ∷ b ∷ [])) ≡ a ∷ b ∷ []
+unfolding Each
+two-bytes a b ha hb = bytes-of-value (a ∷ b ∷ []) (ha, (hb, tt))
+
+pub four-bytes : (a b c d : ℕ) → a < 256 → b < 256 → c < 256 → d < 256 → bytesOf 4 (valueOf (a ∷ b ∷ c ∷ d ∷ [])) ≡ a ∷ b ∷ c ∷ d ∷ []
+unfolding Each
+four-bytes a b c d ha hb hc hd = bytes-of-value (a ∷ b ∷ c ∷ d ∷ []) (ha, (hb, (hc, (hd, tt))))
