@@ -655,8 +655,7 @@ pub fn turns_case(rng: &mut Rng) -> turns::Case {
             Step::Repeat { sample, count }
         }
         4 => {
-            let mut words: Vec<u16> =
-                (0..rng.below(20)).flat_map(|_| word_sample(rng)).collect();
+            let mut words: Vec<u16> = (0..rng.below(20)).flat_map(|_| word_sample(rng)).collect();
             match rng.below(3) {
                 0 if !words.is_empty() => {
                     let place = rng.below(words.len());
@@ -693,7 +692,8 @@ pub fn ring_image(rng: &mut Rng) -> ring::Image {
         _ => rng.below(128) as u8,
     };
     let full = rng.one_in(8);
-    let slots = if full { (0..64).collect() } else { rng.bytes_of(3, &(0..64).collect::<Vec<_>>()) };
+    let slots =
+        if full { (0..64).collect() } else { rng.bytes_of(3, &(0..64).collect::<Vec<_>>()) };
     let slots = slots.into_iter().map(|slot| {
         let mut content = near_record(rng);
         if rng.one_in(4) {

@@ -33,7 +33,8 @@ struct Hall {
 impl Hall {
     /// Whether a point is in the air.
     fn is_air(&self, x: f64, y: f64) -> bool {
-        let heap = self.floor + (self.heap_height - (x - self.heap_middle).abs() * self.slope).max(0.0);
+        let heap =
+            self.floor + (self.heap_height - (x - self.heap_middle).abs() * self.slope).max(0.0);
         x > self.left && x < self.right && y < self.ceiling && y > heap
     }
 
@@ -111,7 +112,8 @@ fn scan(model: &mut Model, samples: &[Sample]) -> Vec<u8> {
 }
 
 fn captures() -> Vec<Capture> {
-    let info = Info { model: 0x18, firmware_minor: 29, firmware_major: 1, hardware: 7, serial: SERIAL };
+    let info =
+        Info { model: 0x18, firmware_minor: 29, firmware_major: 1, hardware: 7, serial: SERIAL };
     let mut rng = Rng::new(SEED);
     let mut model = Model::new(info);
     let [stop, scan_code, force, info_code, health_code] =

@@ -4,7 +4,8 @@ use bench::own::scanlist::{scanlist, CUT, ROOM};
 use std::io::{self, Read, Write};
 use std::process::ExitCode;
 
-const USAGE: &str = "own_scanlist CODE [CUT [ROOM]]: a code of two hex digits, 1 byte or more, 3 words or more";
+const USAGE: &str =
+    "own_scanlist CODE [CUT [ROOM]]: a code of two hex digits, 1 byte or more, 3 words or more";
 
 struct Arguments {
     code: u8,

@@ -119,9 +119,9 @@ pub fn own(case: &Case) -> Answer {
             let info = Info::read(fields).expect("twenty bytes");
             Answer::write(room, |out| info.write(out))
         }
-        Case::ReadHealth { ref bytes } => Answer::read(
-            Health::read(bytes).map(|h| vec![u64::from(h.status), u64::from(h.error)]),
-        ),
+        Case::ReadHealth { ref bytes } => {
+            Answer::read(Health::read(bytes).map(|h| vec![u64::from(h.status), u64::from(h.error)]))
+        }
         Case::WriteHealth { status, error, room } => {
             Answer::write(room, |out| Health { status, error }.write(out))
         }
@@ -166,7 +166,9 @@ mod tests {
     #[test]
     fn an_angle_taken_one_too_far_is_found() {
         let mut wrong = |case: &Case| match case {
-            Case::WriteSample { angle: 23_040, quality: 0..=63, room: 5.., .. } => Answer::default(),
+            Case::WriteSample { angle: 23_040, quality: 0..=63, room: 5.., .. } => {
+                Answer::default()
+            }
             other => own(other),
         };
         let mismatch = against(&Plan { seed: 1, cases: 1_000_000 }, &mut wrong).unwrap_err();

@@ -83,7 +83,8 @@ pub fn compare<C: Smaller, A: PartialEq>(plan: &Plan, pair: Pair<'_, C, A>) -> C
         if mine == theirs {
             continue;
         }
-        let mut mismatch = Mismatch { part, seed: plan.seed, number, case, own: mine, other: theirs };
+        let mut mismatch =
+            Mismatch { part, seed: plan.seed, number, case, own: mine, other: theirs };
         make_smaller(&mut mismatch, own, other);
         return Err(Box::new(mismatch));
     }

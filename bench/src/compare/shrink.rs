@@ -36,13 +36,13 @@ const STRETCH: usize = 8;
 impl<T: Smaller> Smaller for Vec<T> {
     fn smaller(&self) -> Box<dyn Iterator<Item = Vec<T>> + '_> {
         let sizes = std::iter::successors(Some(self.len()), |size| Some(size / 2));
-        let halves = sizes.take_while(|&size| size > 0).flat_map(move |size| {
-            (0..self.len()).step_by(size).map(move |from| (from, size))
-        });
+        let halves = sizes
+            .take_while(|&size| size > 0)
+            .flat_map(move |size| (0..self.len()).step_by(size).map(move |from| (from, size)));
         let largest = if self.len() > SHORT { 0 } else { STRETCH.min(self.len()) };
-        let stretches = (2..=largest).rev().flat_map(move |size| {
-            (0..=self.len() - size).map(move |from| (from, size))
-        });
+        let stretches = (2..=largest)
+            .rev()
+            .flat_map(move |size| (0..=self.len() - size).map(move |from| (from, size)));
         let fewer = halves.chain(stretches).map(move |(from, size)| {
             let to = (from + size).min(self.len());
             [&self[..from], &self[to..]].concat()

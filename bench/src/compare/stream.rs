@@ -114,7 +114,14 @@ pub fn run<R>(
                     let mut row = vec![FILL_WORD; room];
                     let Outcome { taken, words, stop, reply } = read(reader, rest, &mut row);
                     let state = state(reader);
-                    answers.push(Answer::Read { taken, words, stop: stop as u8, reply, row, state });
+                    answers.push(Answer::Read {
+                        taken,
+                        words,
+                        stop: stop as u8,
+                        reply,
+                        row,
+                        state,
+                    });
                     rest = rest.get(taken..).unwrap_or_default();
                     if rest.is_empty() {
                         break;

@@ -20,8 +20,7 @@ pub struct Case {
 
 impl Smaller for Case {
     fn smaller(&self) -> Box<dyn Iterator<Item = Case> + '_> {
-        let cases: Box<dyn Iterator<Item = Case>> =
-            smaller_fields!(self; bytes, cut, room, code);
+        let cases: Box<dyn Iterator<Item = Case>> = smaller_fields!(self; bytes, cut, room, code);
         Box::new(cases.filter(|case| case.cut > 0 && case.room >= 3))
     }
 }
@@ -32,10 +31,7 @@ pub fn own(case: &Case) -> Vec<u8> {
 }
 
 /// Compares the other program with the bench's own.
-pub fn against(
-    plan: &Plan,
-    other: &mut dyn FnMut(&Case) -> Vec<u8>,
-) -> Compared<Case, Vec<u8>> {
+pub fn against(plan: &Plan, other: &mut dyn FnMut(&Case) -> Vec<u8>) -> Compared<Case, Vec<u8>> {
     compare(plan, Pair { part: "scanlist", make: &gen::text_case, own: &own, other })
 }
 

@@ -9,10 +9,20 @@ use crate::{gen, smaller_case, smaller_fields};
 #[derive(Clone, Debug, PartialEq)]
 #[allow(missing_docs)]
 pub enum Step {
-    Sample { start: bool, quality: u8, angle: u16, distance: u16 },
-    Row { words: Vec<u16> },
+    Sample {
+        start: bool,
+        quality: u8,
+        angle: u16,
+        distance: u16,
+    },
+    Row {
+        words: Vec<u16>,
+    },
     /// So many samples alike, one by one behind each other in one row.
-    Repeat { sample: [u16; 3], count: usize },
+    Repeat {
+        sample: [u16; 3],
+        count: usize,
+    },
     RequestTold,
 }
 

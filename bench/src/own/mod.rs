@@ -9,6 +9,7 @@ pub mod model;
 pub mod plain_reader;
 pub mod reader;
 pub mod record;
+pub mod recording;
 pub mod refusal;
 pub mod request;
 pub mod ring;

@@ -41,7 +41,13 @@ impl Model {
     }
 
     /// A scanner in a given state with a status that the bench may set.
-    pub fn at(state: State, motor_stable: bool, status: u8, error: u16, info: Info) -> Option<Model> {
+    pub fn at(
+        state: State,
+        motor_stable: bool,
+        status: u8,
+        error: u16,
+        info: Info,
+    ) -> Option<Model> {
         let model = Model { state, motor_stable, status, error, info };
         (status <= LARGEST_SETTING).then_some(model)
     }

@@ -43,10 +43,7 @@ impl Request {
 
     /// The request with a code; any other code is refused (1).
     pub fn from_code(code: u8) -> Result<Request, Refusal> {
-        Request::ALL
-            .into_iter()
-            .find(|request| request.code() == code)
-            .ok_or(Refusal::Unsuited)
+        Request::ALL.into_iter().find(|request| request.code() == code).ok_or(Refusal::Unsuited)
     }
 
     /// How many milliseconds the next request has to wait after this one.

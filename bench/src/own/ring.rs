@@ -93,6 +93,16 @@ pub fn store(ring: &mut [u8], record: &[u8], k: usize) -> Result<(), Refusal> {
     Ok(())
 }
 
+/// The place in the ring of the byte that store `k` of adding touches. Refused: 10, 11, 12.
+pub fn store_place(ring: &[u8], k: usize) -> Result<usize, Refusal> {
+    let head = Head::of(memory(ring)?)?;
+    match k {
+        0..HEAD_STORE => Ok(place(head.free()) + k),
+        HEAD_STORE => Ok(0),
+        _ => Err(Refusal::NoSuch),
+    }
+}
+
 /// Adds a record: stores 0 to 754 in order. Refused: 10, 11, 9.
 pub fn add(ring: &mut [u8], record: &[u8]) -> Result<(), Refusal> {
     let memory = memory_mut(ring)?;
@@ -251,6 +261,7 @@ mod tests {
                 assert_eq!(store(&mut stores, &added, k), Ok(()));
                 // Each store touches one byte, and until the last one no turn is another.
                 let touched = if k < 754 { place(usize::from(head) % 64) + k } else { 0 };
+                assert_eq!(store_place(&before, k), Ok(touched));
                 assert!(stores[..touched] == before[..touched]);
                 assert!(stores[touched + 1..] == before[touched + 1..]);
                 if k < 754 {
@@ -282,6 +293,7 @@ mod tests {
         assert_eq!(add(&mut ring, &good[..753]), Err(Refusal::NotRecord));
         for k in [755, 756, usize::MAX] {
             assert_eq!(store(&mut ring, &good, k), Err(Refusal::NoSuch));
+            assert_eq!(store_place(&ring, k), Err(Refusal::NoSuch));
         }
         assert!(ring == filled(5));
     }
