@@ -56,7 +56,7 @@ module _ {P E : Type 0} {F : Framing P E} (ok : Lawful F) {p : P} {n : ℕ} {say
   none-behind xs q h = rw (drop-of-length-le xs {i = n} (omega arith)) (run-more ok (fresh q) (empty-more ok q))
 
   -- a window that was just completed leaves nothing to test
-  run-exact : (xs : List ℕ) → length xs ≡ n → run F (here xs) ≡ stepped (front-step xs) (stopped (passed F (here xs) (front-step xs)))
+  pub run-exact : (xs : List ℕ) → length xs ≡ n → run F (here xs) ≡ stepped (front-step xs) (stopped (passed F (here xs) (front-step xs)))
   unfolding passed stepOf size after
   run-exact xs h = run-full xs (omega arith) ∙ ap (stepped (front-step xs)) (by (says (take n xs)))
     where
@@ -65,19 +65,14 @@ module _ {P E : Type 0} {F : Framing P E} (ok : Lawful F) {p : P} {n : ℕ} {say
       by (passes e) = none-behind xs (F .next p e) h
       by (spoiled e) = none-behind xs (F .next p e) h
 
-  -- bytes that come one by one complete one window at most
-  pub one-output : {X : Type 0} (G : Giving E X) → ((e : E) → length (G .gives e) ≤ 1)
+  -- bytes that come one by one complete one window at most, so they make one thing due at most where each window does
+  pub one-output : {X : Type 0} (G : Giving E X) → ((v : List ℕ) → length (outputs G (stepOf n (says v) ∷ [])) ≤ 1)
       → (xs : List ℕ) (b : ℕ) → F .look p xs ≡ more → length (outputs G (run F (fed (here xs) (b ∷ [])) .steps)) ≤ 1
-  unfolding fed stepped stopped outputs events flatMap stepOf
+  unfolding fed stepped stopped outputs events flatMap
   one-output G one xs b e = elim (decLe n (length (xs ++ b ∷ []))) [
-    | yes k ↦ rw (run-exact (xs ++ b ∷ []) (omega (arith, more-few xs e, length-append xs (b ∷ [])))) (by (says (take n (xs ++ b ∷ []))))
+    | yes k ↦ rw (run-exact (xs ++ b ∷ []) (omega (arith, more-few xs e, length-append xs (b ∷ [])))) (one (take n (xs ++ b ∷ [])))
     | no k ↦ rw (run-few (xs ++ b ∷ []) (lt-of-not-le k)) (omega arith)
   ]
-    where
-      by : (v : Verdict E) → length (outputs G (stepOf n v ∷ [])) ≤ 1
-      by fails = omega arith
-      by (passes e) = rw append-nil (one e)
-      by (spoiled e) = rw append-nil (one e)
 
 module _ {P E X : Type 0} {F : Framing P E} (ok : Lawful F) (G : Giving E X) {p : P} {n : ℕ} {says : List ℕ → Verdict E} (w : ByWindow F p n says) where
   abbrev at-p : List ℕ → State P
