@@ -4,7 +4,7 @@ use mathlib.Core.Path.{_≡_, refl, ap, _∙_}
 use mathlib.Core.List.{List, [], _∷_, _++_}
 use native.Mathlib.Omega.{arith}
 use native.Mathlib.Nat.{pow-suc}
-use lib.ListN.{length, getD}
+use lib.ListN.{length, getD, take, drop}
 use Rattle.paper.specs.Words.{valueOf, bytesOf, Each, Bytes}
 
 pub length-bytes : (w v : ℕ) → length (bytesOf w v) ≡ w
@@ -33,6 +33,9 @@ bytes-of-value (b ∷ xs) h =
     let low : (b + valueOf xs * 256) % 256 ≡ b = omega arith in
     let rest : (b + valueOf xs * 256) / 256 ≡ valueOf xs = omega arith in
     rw (low, rest, bytes-of-value xs (h .1))
+
+pub bytes-back : (w : ℕ) (xs : List ℕ) → Bytes xs → length xs ≡ w → bytesOf w (valueOf xs) ≡ xs
+bytes-back w xs h e = rw (← e) (bytes-of-value xs h)
 
 -- as many bytes hold a number below so many times 256
 pub value-fits : (xs : List ℕ) → Bytes xs → valueOf xs < 256 ^ length xs
@@ -63,3 +66,15 @@ two-bytes a b ha hb = bytes-of-value (a ∷ b ∷ []) (ha, (hb, tt))
 pub four-bytes : (a b c d : ℕ) → a < 256 → b < 256 → c < 256 → d < 256 → bytesOf 4 (valueOf (a ∷ b ∷ c ∷ d ∷ [])) ≡ a ∷ b ∷ c ∷ d ∷ []
 unfolding Each
 four-bytes a b c d ha hb hc hd = bytes-of-value (a ∷ b ∷ c ∷ d ∷ []) (ha, (hb, (hc, (hd, tt))))
+
+pub each-take : {A : Type 0} (P : A → Type 0) (n : ℕ) (xs : List A) → Each P xs → Each P (take n xs)
+unfolding Each
+each-take P zero xs a = tt
+each-take P (suc n) [] a = tt
+each-take P (suc n) (x ∷ xs) a = (a .0, each-take P n xs (a .1))
+
+pub each-drop : {A : Type 0} (P : A → Type 0) (n : ℕ) (xs : List A) → Each P xs → Each P (drop n xs)
+unfolding Each
+each-drop P zero xs a = a
+each-drop P (suc n) [] a = tt
+each-drop P (suc n) (x ∷ xs) a = each-drop P n xs (a .1)

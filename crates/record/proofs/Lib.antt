@@ -7,3 +7,5 @@ pub mod Writing
 pub mod Reading
 pub mod Answers
 pub mod Determined
+pub mod FieldsRoundTrip
+pub mod RoundTrip
