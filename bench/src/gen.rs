@@ -319,13 +319,13 @@ pub fn cut(rng: &mut Rng, bytes: &[u8]) -> Vec<Vec<u8>> {
     pieces
 }
 
-/// The words lent to a call of the reader.
-pub fn row_room(rng: &mut Rng) -> usize {
+/// The words lent to a call of the reader: few, or enough for so many bytes.
+pub fn row_room(rng: &mut Rng, bytes: usize) -> usize {
     match rng.below(4) {
         0 => rng.below(4),
         1 => rng.below(10),
-        2 => rng.below(100),
-        _ => 1_000,
+        2 => rng.below(60),
+        _ => bytes + 3,
     }
 }
 
@@ -601,7 +601,7 @@ pub fn reader_state(rng: &mut Rng) -> stream::State {
         1 => rng.long() as u32,
         _ => 0,
     };
-    stream::State { phase: phase as u8, held, skipped }
+    stream::State { phase: phase as u8, held: stream::Held::new(&held), skipped }
 }
 
 /// A stream valid or damaged, cut anywhere, with rooms; from a fresh or a random state.
@@ -617,9 +617,9 @@ pub fn stream_case(rng: &mut Rng) -> stream::Case {
         }
         let bytes = stream(rng);
         let pieces = cut(rng, &bytes);
-        let fixed = rng.one_in(2).then(|| row_room(rng));
+        let fixed = rng.one_in(2).then(|| row_room(rng, 200));
         steps.extend(pieces.into_iter().map(|bytes| {
-            let room = fixed.unwrap_or_else(|| row_room(rng));
+            let room = fixed.unwrap_or_else(|| row_room(rng, bytes.len()));
             Step::Read { bytes, room }
         }));
     }

@@ -5,14 +5,50 @@ use super::{compare, number, Compared, Pair, Plan, FILL_WORD};
 use crate::own::sample::SAMPLE_WORDS;
 use crate::own::{Expected, Outcome, Phase, PlainReader, Reader, Refusal, Stop};
 use crate::{gen, smaller_case, smaller_fields};
+use std::fmt;
+
+/// Bytes that a reader holds, without memory of their own: there are very many of them.
+#[derive(Clone, Copy, Default, PartialEq)]
+pub struct Held {
+    bytes: [u8; 19],
+    count: u8,
+}
+
+impl Held {
+    /// These bytes, the first nineteen of them at most.
+    pub fn new(held: &[u8]) -> Held {
+        let mut bytes = [0; 19];
+        let count = held.len().min(bytes.len());
+        bytes[..count].copy_from_slice(&held[..count]);
+        Held { bytes, count: count as u8 }
+    }
+
+    /// The bytes.
+    pub fn bytes(&self) -> &[u8] {
+        &self.bytes[..usize::from(self.count)]
+    }
+}
+
+impl fmt::Debug for Held {
+    fn fmt(&self, f: &mut fmt::Formatter<'_>) -> fmt::Result {
+        self.bytes().fmt(f)
+    }
+}
+
+impl Smaller for Held {
+    fn smaller(&self) -> Box<dyn Iterator<Item = Held> + '_> {
+        let smaller: Vec<Vec<u8>> = self.bytes().to_vec().smaller().collect();
+        Box::new(smaller.into_iter().map(|bytes| Held::new(&bytes)))
+    }
+}
 
 /// A reader's state as numbers. All zero is the fresh one.
-#[derive(Clone, Debug, Default, PartialEq)]
+#[derive(Clone, Copy, Debug, Default, PartialEq)]
 pub struct State {
     /// 0 idle; 1, 2, 3 seeking samples, info, health; 4, 5, 6 reading them.
     pub phase: u8,
     /// The bytes held.
-    pub held: Vec<u8>,
+    pub held: Held,
     /// How many bytes were skipped.
     pub skipped: u32,
 }
@@ -33,13 +69,13 @@ impl State {
 
     fn new(phase: Phase, held: &[u8], skipped: u32) -> State {
         let phase = State::PHASES.iter().position(|&other| other == phase).expect("one of seven");
-        State { phase: phase as u8, held: held.to_vec(), skipped }
+        State { phase: phase as u8, held: Held::new(held), skipped }
     }
 
     /// The bench's own reader in this state.
     pub fn reader(&self) -> Reader {
         let phase = State::PHASES[usize::from(self.phase)];
-        Reader::at(phase, &self.held, self.skipped).expect("so many are held")
+        Reader::at(phase, self.held.bytes(), self.skipped).expect("so many are held")
     }
 }
 
@@ -85,8 +121,19 @@ impl Smaller for Case {
 #[derive(Clone, Debug, PartialEq)]
 #[allow(missing_docs)]
 pub enum Answer {
-    Told { refusal: u8, state: State },
-    Read { taken: usize, words: usize, stop: u8, reply: [u8; 20], row: Vec<u16>, state: State },
+    Told {
+        refusal: u8,
+        state: State,
+    },
+    /// `untouched` says that the words lent beyond those written are as they were.
+    Read {
+        taken: usize,
+        words: Vec<u16>,
+        untouched: bool,
+        stop: u8,
+        reply: [u8; 20],
+        state: State,
+    },
 }
 
 /// Runs a case over any reader, given as three closures: tell, read, state.
@@ -101,6 +148,7 @@ pub fn run<R>(
     state: impl Fn(&R) -> State,
 ) -> Vec<Answer> {
     let mut answers = Vec::new();
+    let mut row = Vec::new();
     for step in &case.steps {
         match step {
             Step::Tell { code } => {
@@ -111,16 +159,17 @@ pub fn run<R>(
                 let mut rest = bytes.as_slice();
                 let mut room = *room;
                 for _ in 0..bytes.len() + 2 {
-                    let mut row = vec![FILL_WORD; room];
+                    row.clear();
+                    row.resize(room, FILL_WORD);
                     let Outcome { taken, words, stop, reply } = read(reader, rest, &mut row);
-                    let state = state(reader);
+                    let (words, beyond) = row.split_at_checked(words).unwrap_or((&row, &[]));
                     answers.push(Answer::Read {
                         taken,
-                        words,
+                        words: words.to_vec(),
+                        untouched: beyond.iter().all(|&word| word == FILL_WORD),
                         stop: stop as u8,
                         reply,
-                        row,
-                        state,
+                        state: state(reader),
                     });
                     rest = rest.get(taken..).unwrap_or_default();
                     if rest.is_empty() {
@@ -165,13 +214,13 @@ pub fn gist(answers: &[Answer]) -> Gist {
     let mut gist = Gist::default();
     for answer in answers {
         match answer {
-            Answer::Told { state, .. } => gist.end = state.clone(),
-            Answer::Read { words, stop, reply, row, state, .. } => {
-                gist.words.extend_from_slice(&row[..*words]);
+            Answer::Told { state, .. } => gist.end = *state,
+            Answer::Read { words, stop, reply, state, .. } => {
+                gist.words.extend_from_slice(words);
                 if *stop > Stop::Room as u8 {
                     gist.events.push((*stop, *reply));
                 }
-                gist.end = state.clone();
+                gist.end = *state;
             }
         }
     }
@@ -211,7 +260,7 @@ mod tests {
                     _ => steps.push(step.clone()),
                 }
             }
-            gist(&own(&Case { state: case.state.clone(), steps }))
+            gist(&own(&Case { state: case.state, steps }))
         };
         let compared = compare(
             &Plan { seed: 6, cases: 30_000 },
