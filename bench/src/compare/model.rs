@@ -44,7 +44,7 @@ impl State {
         State {
             doing: doing.expect("one of four") as u8,
             stable: model.motor_stable(),
-            status: model.set_to(),
+            status: model.status_as_set(),
             error: model.health().error,
         }
     }

@@ -63,7 +63,7 @@ impl Model {
     }
 
     /// The status that the bench set, whether or not there is a protection stop.
-    pub fn set_to(&self) -> u8 {
+    pub fn status_as_set(&self) -> u8 {
         self.status
     }
 
