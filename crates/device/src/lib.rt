@@ -1,0 +1,2 @@
+// The bench's side of the line: the collector of requests.
+pub mod collector;
