@@ -1,0 +1,3 @@
+pub mod Session
+pub mod Promises
+pub mod inner
