@@ -24,7 +24,7 @@ use Rattle.wire.specs.Sample.{
   sampleIn,
   sampleOf,
   firstByte,
-  unfit,
+  fit,
   bytesOfSample,
   mark,
   wordsOf,
@@ -39,14 +39,9 @@ use Rattle.wire.specs.declared.sample.Sample.{Sample}
 use Rattle.wire.specs.declared.descriptor.Descriptor.{Descriptor}
 use Rattle.wire.specs.declared.reply.Info.{Info}
 use Rattle.wire.specs.declared.reply.Health.{Health}
-use Rattle.wire.proofs.Samples.{fit, bytes-fit, words-fit}
+use Rattle.wire.proofs.Samples.{each-holds, fit-both, bytes-fit, words-fit}
 use Rattle.wire.proofs.Descriptors.{bytes-given}
 use Rattle.wire.proofs.Replies.{health-fit}
-
--- of two tests that hold together
-pub each-holds : (a b : Bool) → a && b ≡ true → (a ≡ true) × (b ≡ true)
-each-holds true b e = (refl, e)
-each-holds false b e = let z : _≡_ {A = ℕ} 0 1 = cc in absurd (omega arith)
 
 -- what a passed check says
 pub record Passes (xs : List ℕ) : Type 0 where
@@ -93,7 +88,7 @@ sample-again xs m h e =
     let w = passes-means xs (not-false _ (p .0)) in
     let low = byte-at xs h 0 in
     rw (← gives-one (p .1))
-    (bytes-fit (sampleIn xs) (fit (sampleIn xs) (w .angle) (omega arith))
+    (bytes-fit (sampleIn xs) (sym (fit-both _ _ (w .angle) (omega arith))) refl refl
     ∙ ap gives (five-again (getD xs 0 0) (getD xs 1 0) (getD xs 2 0) (getD xs 3 0) (getD xs 4 0) (byte-at xs h 1) (byte-at xs h 3) (byte-at xs h 4) (w .differs) (w .check) ∙ listed-whole 5 xs (w .five)))
 
 -- ---- words
@@ -110,13 +105,10 @@ pub words-again : (ws : List ℕ) (m : Sample) → sampleOfWords ws ≡ gives m 
 unfolding sampleOfWords sampleFrom areWords wordsOf
 words-again ws m e =
     let p = refuse-not (not (areWords ws)) (numberOf NotASample) (gives (sampleFrom ws)) e in
-    let a = each-holds (eqb (length ws) 3 && ltb (getD ws 0 0) angles) _ (not-false _ (p .0)) in
-    let b = each-holds (eqb (length ws) 3) _ (a .0) in
-    let l = ltb-true (getD ws 0 0) angles (b .1) in
-    let q = ltb-true (getD ws 2 0 / 2) qualities (a .1) in
+    let a = each-holds (eqb (length ws) 3) _ (not-false _ (p .0)) in
     rw (← gives-one (p .1))
-    (words-fit (sampleFrom ws) (fit (sampleFrom ws) l q)
-    ∙ ap gives (rw (mark-again (getD ws 2 0)) (listed-whole 3 ws (eqb-true (length ws) 3 (b .0)))))
+    (words-fit (sampleFrom ws) (sym (a .1)) refl refl
+    ∙ ap gives (rw (mark-again (getD ws 2 0)) (listed-whole 3 ws (eqb-true (length ws) 3 (a .0)))))
 
 -- ---- descriptors
 

@@ -7,7 +7,7 @@ use mathlib.Core.List.{List, [], _∷_, _++_}
 use native.Mathlib.Omega.{arith}
 use lib.Dec.{eqb, ltb, leb}
 use lib.ListN.{length, getD, length-append}
-use borrow.Author.Tests.{lt-ltb, le-ltb, le-leb, lt-leb, eq-eqb, ne-eqb, ltb-false, leb-false}
+use borrow.Author.Tests.{lt-ltb, le-ltb, le-leb, lt-leb, eq-eqb, ne-eqb, ltb-false, leb-false, not-false}
 use Rattle.paper.specs.Outcome.{Outcome, gives}
 use Rattle.paper.specs.Refusals.{numberOf}
 use Rattle.paper.specs.Words.{valueOf, bytesOf}
@@ -23,7 +23,7 @@ use Rattle.wire.specs.Sample.{
   sampleIn,
   sampleOf,
   firstByte,
-  unfit,
+  fit,
   bytesOfSample,
   mark,
   wordsOf,
@@ -35,7 +35,7 @@ use Rattle.wire.specs.Sample.{
 use Rattle.wire.specs.Request.{startByte}
 use Rattle.wire.specs.Descriptor.{flagByte, lengths, wordIn, isDescriptor, descriptorIn, descriptorOf, bytesOfDescriptor}
 use Rattle.wire.specs.Reply.{errorStatus, infoIn, infoOf, bytesOfInfo, isHealth, healthIn, healthOf, bytesOfHealth}
-use Rattle.wire.proofs.Samples.{passes-all, words-are}
+use Rattle.wire.proofs.Samples.{passes-all, fit-means, words-are}
 use Rattle.wire.proofs.Descriptors.{all-four, its-fields}
 use Rattle.wire.proofs.Replies.{status-fit}
 use Rattle.wire.specs.declared.sample.Sample.{Sample}
@@ -47,10 +47,6 @@ use Rattle.wire.specs.declared.reply.Health.{Health}
 pub neither : (a b : Bool) → a || b ≡ false → (a ≡ false) × (b ≡ false)
 neither true b e = let z : _≡_ {A = ℕ} 0 1 = cc in absurd (omega arith)
 neither false b e = (refl, e)
-
-pub fit-means : (m : Sample) → unfit m ≡ false → (m .angle .0 < angles) × (m .quality < qualities)
-unfolding unfit
-fit-means m e = let n = neither _ _ e in (leb-false _ _ (n .0), leb-false _ _ (n .1))
 
 -- ---- byte 0 of a sample
 
@@ -94,8 +90,9 @@ five-passes m h =
 pub sample-back : (m : Sample) (xs : List ℕ) → m .distance .0 < 65536 → bytesOfSample m ≡ gives xs → sampleOf xs ≡ gives m
 unfolding bytesOfSample sampleOf five-bytes
 sample-back m xs w e =
-    let p = refuse-not (unfit m) (numberOf NotASample) (gives (five-bytes m)) e in
-    rw (← gives-one (p .1)) (refuse-no (numberOf NotASample) _ (ap not (five-passes m (fit-means m (p .0) .0))) ∙ ap gives (five-sample m w))
+    let p = refuse-not (not (fit (m .angle .0) (m .quality))) (numberOf NotASample) (gives (five-bytes m)) e in
+    let f = fit-means (m .angle .0) (m .quality) (not-false _ (p .0)) in
+    rw (← gives-one (p .1)) (refuse-no (numberOf NotASample) _ (ap not (five-passes m (f .0))) ∙ ap gives (five-sample m w))
 
 mark-start : (b : Bool) (q : ℕ) → eqb (mark b q % 2) 1 ≡ b
 unfolding mark
@@ -110,11 +107,11 @@ mark-quality false q = omega arith
 pub words-back : (m : Sample) (ws : List ℕ) → wordsOfSample m ≡ gives ws → sampleOfWords ws ≡ gives m
 unfolding wordsOfSample wordsOf sampleOfWords sampleFrom
 words-back m ws e =
-    let p = refuse-not (unfit m) (numberOf NotASample) (gives (wordsOf m)) e in
-    let f = fit-means m (p .0) in
-    let q : mark (m .start) (m .quality) / 2 ≤ 63 = rw (mark-quality (m .start) (m .quality)) (omega arith) in
+    let p = refuse-not (not (fit (m .angle .0) (m .quality))) (numberOf NotASample) (gives (wordsOf m)) e in
+    let k : ℕ = mark (m .start) (m .quality) in
+    let f : true ≡ fit (m .angle .0) (k / 2) = rw (mark-quality (m .start) (m .quality)) (sym (not-false _ (p .0))) in
     rw (← gives-one (p .1))
-    (refuse-no (numberOf NotASample) _ (ap not (words-are (m .angle .0) (m .distance .0) (mark (m .start) (m .quality)) (f .0) q))
+    (refuse-no (numberOf NotASample) _ (ap not (words-are (m .angle .0) (m .distance .0) k f refl))
     ∙ ap gives (same-sample m (mark-start (m .start) (m .quality)) (mark-quality (m .start) (m .quality)) refl refl))
 
 -- ---- descriptors

@@ -10,7 +10,7 @@ ghost use mathlib.Core.List.{[], _∷_};
 ghost use Prim.Native.Nat.{_<_, _≤_};
 ghost use lib.ListN.{length, take};
 ghost use Rattle.paper.specs.Writing.{Writes};
-ghost use Rattle.wire.specs.Sample.{angleIn, firstByte, mark, bytesOfSample, wordsOfSample};
+ghost use Rattle.wire.specs.Sample.{angleIn, fit, firstByte, mark, bytesOfSample, wordsOfSample};
 ghost use Rattle.wire.specs.Promises.{SampleIsRead, WordsAreRead};
 
 pub struct Sample {
@@ -33,7 +33,7 @@ impl Sample {
 
     pub const ANGLES: u16 = 23040;
 
-    pub const QUALITIES: u8 = 64;
+    pub const QUALITIES: u16 = 64;
 
     // Of exactly five bytes.
     pub fn read(bytes: &[u8]) -> SampleRead
@@ -76,15 +76,13 @@ impl Sample {
     pub fn read_words(angle: u16, distance: u16, mark: u16) -> SampleRead
         ensures { λ r. ⌜ WordsAreRead (angle ∷ distance ∷ mark ∷ []) r ⌝ }
     {
-        if Sample::ANGLES <= angle {
-            return SampleRead::Refused(Refusal::NotASample);
-        }
-        if 63 < mark / 2 {
+        let quality = mark / 2;
+        if !fits(angle, quality) {
             return SampleRead::Refused(Refusal::NotASample);
         }
         SampleRead::Gives(Sample {
             start: mark % 2 == 1,
-            quality: (mark / 2) as u8,
+            quality: quality as u8,
             angle: AngleQ6(angle),
             distance: DistanceQ2(distance),
         })
@@ -94,11 +92,8 @@ impl Sample {
         ensures { λ r. ⌜ Writes (bytesOfSample self) (now (out .entry)) r (now (out .exit)) ⌝ }
     {
         let angle = self.angle.0;
-        if Sample::ANGLES <= angle {
-            return Written::Refused(Refusal::NotASample);
-        }
         let quality = self.quality;
-        if Sample::QUALITIES <= quality {
+        if !fits(angle, wide(quality)) {
             return Written::Refused(Refusal::NotASample);
         }
         let d = word::bytes16(self.distance.0);
@@ -117,11 +112,8 @@ impl Sample {
         ensures { λ r. ⌜ Writes (wordsOfSample self) (now (row .entry)) r (now (row .exit)) ⌝ }
     {
         let angle = self.angle.0;
-        if Sample::ANGLES <= angle {
-            return Written::Refused(Refusal::NotASample);
-        }
         let quality = self.quality;
-        if Sample::QUALITIES <= quality {
+        if !fits(angle, wide(quality)) {
             return Written::Refused(Refusal::NotASample);
         }
         if row.len() < 3 {
@@ -132,6 +124,16 @@ impl Sample {
         row[2] = mark_of(self.start, quality);
         Written::Bytes(3)
     }
+}
+
+// An angle below a whole turn, and a quality of six bits.
+fn fits(angle: u16, quality: u16) -> bool
+    ensures { λ r. ⌜ r ≡ fit angle quality ⌝ }
+{
+    if Sample::ANGLES <= angle {
+        return false;
+    }
+    quality < Sample::QUALITIES
 }
 
 fn wide(b: u8) -> u16

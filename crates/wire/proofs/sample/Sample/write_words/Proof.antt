@@ -2,24 +2,27 @@
 use mathlib.Core.Path.{refl}
 use native.Mathlib.Omega.{arith}
 use lib.ListN.{length-set}
-use Rattle.paper.proofs.Writing.{writes-short, writes-all}
+use Rattle.paper.proofs.Writing.{writes-no, writes-yes, writes-short, writes-all}
 use Rattle.wire.specs.Sample.{wordsOf}
-use Rattle.wire.proofs.Samples.{three}
-use Rattle.paper.proofs.Writing.{writes-no, writes-yes}
-use Rattle.wire.proofs.Samples.{unfit-angle, unfit-quality, fit, words-unfit, words-fit}
+use Rattle.wire.proofs.Samples.{words-unfit, words-fit, three}
 use borrow.Author.Needs.{needs}
 use Rattle.wire.proofs.sample.Sample.write_words.Statement.{statement}
 use Rattle.wire.proofs.sample.Sample.write_words.Tie as tie
 
+wide-requires : tie.Need-wide-requires
+wide-requires c κs = search needs
+
+fits-requires : tie.Need-fits-requires
+fits-requires c κs = search needs
+
 returns : tie.Need-returns
-returns c = writes-no (words-unfit _ (unfit-angle _ (c .if1 .taken)))
+returns c = writes-no (words-unfit (c .before .before .before .before .args .self) (c .before .fits2 .ensures) (c .before .before .wide .ensures .0) (c .if1 .taken))
 
 returns-2 : tie.Need-returns-2
-returns-2 c = writes-no (words-unfit _ (unfit-quality _ (c .before .if1 .left) (c .if2 .taken)))
-
-returns-3 : tie.Need-returns-3
 unfolding wordsOf
-returns-3 c = writes-yes (words-fit _ (fit _ (c .before .before .if1 .left) (c .before .if2 .left))) refl (writes-short (wordsOf (c .before .before .before .before .args .self)) _ (c .if3 .taken))
+returns-2 c = let d = c .before in
+    let m = d .before .before .before .before .args .self in
+    writes-yes (words-fit m (d .before .fits2 .ensures) (d .before .before .wide .ensures .0) (d .if1 .left)) refl (writes-short (wordsOf m) _ (c .if2 .taken))
 
 slice-write-row : tie.Need-slice-write-row
 slice-write-row c = search needs
@@ -36,20 +39,23 @@ slice-write-row-3 c = search needs
 same-length : tie.Need-same-length
 same-length c = search needs
 
-returns-4 : tie.Need-returns-4
+returns-3 : tie.Need-returns-3
 unfolding wordsOf
-returns-4 c = writes-yes (words-fit _ (fit _ (c .before .before .before .if1 .left) (c .before .before .if2 .left))) refl (writes-all _ _ _ 3 (c .before .if3 .left) refl (three (c .before .before .before .before .before .args .self) _ _ (c .before .if3 .left) (c .mark-of .ensures)))
+returns-3 c = let d = c .before .before in
+    let m = d .before .before .before .before .args .self in
+    writes-yes (words-fit m (d .before .fits2 .ensures) (d .before .before .wide .ensures .0) (d .if1 .left)) refl (writes-all _ _ _ 3 (c .before .if2 .left) refl (three m _ _ (c .before .if2 .left) (c .mark-of .ensures)))
 
 pub write-words-spec : {M : Type 1} → statement M
 write-words-spec =
     tie.close
     (tie.spec
+    wide-requires
+    fits-requires
     returns
     returns-2
-    returns-3
     slice-write-row
     slice-write-row-2
     mark-of-requires
     slice-write-row-3
     same-length
-    returns-4)
+    returns-3)
