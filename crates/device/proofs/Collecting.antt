@@ -35,6 +35,9 @@ use Rattle.device.specs.Collector.{
   behind,
   payloadIn,
   told,
+  answerTo,
+  collectorAfter,
+  memoryAfter,
   completes,
 }
 use Rattle.device.specs.Promises.{ByteCollected}
@@ -112,18 +115,23 @@ second-code begun time b h = told-same (joins-more (started begun) b (le-ltb b 0
 
 pub byte-earlier : (s : Collector) (time b : ℕ) (was : List ℕ) → time < s .last
     → ByteCollected s time b was (record { collector = s; completed = completed.Refused TimeEarlier }) was
-unfolding collecting completes mapped ifGiven
+unfolding collecting completes mapped ifGiven answerTo collectorAfter memoryAfter
 byte-earlier s time b was h =
     let e = refuse-yes (numberOf TimeEarlier) (gives (taking (partOf (s .stage) (s .begun) was) time b)) (lt-ltb time (s .last) h) in
     record { answer = rw e; collector = rw e; memory = rw e }
 
 -- the time of a packet is its collector's
-late-of : (st : Stage) (begun time : ℕ) (mem : List ℕ) → late (partOf st begun mem) time ≡ ltb packetTime (time - begun)
+pub late-of : (st : Stage) (begun time : ℕ) (mem : List ℕ) → late (partOf st begun mem) time ≡ ltb packetTime (time - begun)
 unfolding late partOf started
 late-of Empty begun time mem = refl
 late-of Started begun time mem = refl
 late-of (Coded code) begun time mem = refl
 late-of (Sized code size count sum) begun time mem = refl
+
+-- a byte that comes in time joins a packet begun
+pub joined-at : (st : Stage) (begun time b : ℕ) (mem : List ℕ) → 0 < length (partOf st begun mem .bytes) → ltb packetTime (time - begun) ≡ false
+    → taking (partOf st begun mem) time b ≡ joining (partOf st begun mem) b
+joined-at st begun time b mem h e = taken-joins (partOf st begun mem) time b h (late-of st begun time mem ∙ e)
 
 -- a packet begins, or none: the memory stays
 begin-memory : (time b : ℕ) (was : List ℕ) → was ≡ over was (payloadIn (goes (begin time b)))
@@ -145,10 +153,10 @@ second-memory begun b was = go (ltb b 0x80)
     go false = refl
 
 -- the size
-sized : ℕ → ℕ → ℕ → Part
+unfoldable pub sized : ℕ → ℕ → ℕ → Part
 sized begun code b = record { bytes = startByte ∷ code ∷ b ∷ []; sum = bitXor (bitXor startByte code) b; begun = begun }
 
-size-joins : (begun code b : ℕ) (was : List ℕ) → joining (partOf (Coded code) begun was) b ≡ goes (sized begun code b)
+pub size-joins : (begun code b : ℕ) (was : List ℕ) → joining (partOf (Coded code) begun was) b ≡ goes (sized begun code b)
 unfolding partOf whole sized
 size-joins begun code b was = joins-more (partOf (Coded code) begun was) b (ne-eqb 0 (b + 1) (λ z. omega arith))
 
@@ -162,11 +170,11 @@ size-memory begun code b was = refl
 
 -- the payload
 module _ (code size count sum begun b : ℕ) (was : List ℕ) where
-  filled : Part
+  pub filled : Part
   filled = record { bytes = startByte ∷ code ∷ size ∷ take count was ++ b ∷ []; sum = bitXor sum b; begun = begun }
 
   module _ (h : count < size) (l : size ≤ length was) where
-    payload-joins : joining (partOf (Sized code size count sum) begun was) b ≡ goes filled
+    pub payload-joins : joining (partOf (Sized code size count sum) begun was) b ≡ goes filled
     unfolding partOf whole filled
     payload-joins =
         let t : take count (take size was) ≡ take count was = take-take count size was (omega arith) in
@@ -174,14 +182,18 @@ module _ (code size count sum begun b : ℕ) (was : List ℕ) where
         let w : eqb (length (take count was ++ b ∷ [])) (size + 1) ≡ false = ne-eqb (length (take count was ++ b ∷ [])) (size + 1) (λ (z : length (take count was ++ b ∷ []) ≡ size + 1). omega arith) in
         joins-more (partOf (Sized code size count sum) begun was) b (rw t w) ∙ rw t
 
-    payload-told : (time : ℕ) {r : Collected} → r ≡ goingOn code size (count + 1) (bitXor sum b) begun time → Told (goes filled) time r
-    unfolding told completes behind stageOf goingOn filled
-    payload-told time e =
+    pub payload-behind : (time : ℕ) → behind time (goes filled) ≡ record { stage = Sized code size (count + 1) (bitXor sum b); begun = begun; last = time }
+    unfolding behind stageOf filled
+    payload-behind time =
         let n : length (take count was ++ b ∷ []) ≡ count + 1 = simp length-append (ap (λ (k : ℕ). k + 1) (length-take-le count was (omega arith))) in
         let held : ℕ → Collector = λ k. record { stage = Sized code size k (bitXor sum b); begun = begun; last = time } in
-        rw e (record { answer = refl; collector = ap held (sym n) })
+        ap held n
 
-    payload-memory : set was count b ≡ over was (payloadIn (goes filled))
+    payload-told : (time : ℕ) {r : Collected} → r ≡ goingOn code size (count + 1) (bitXor sum b) begun time → Told (goes filled) time r
+    unfolding told completes goingOn
+    payload-told time e = rw e (record { answer = refl; collector = sym (payload-behind time) })
+
+    pub payload-memory : set was count b ≡ over was (payloadIn (goes filled))
     unfolding payloadIn over filled
     payload-memory =
         let n : length (take count was ++ b ∷ []) ≡ suc count = simp length-append (ap (λ (k : ℕ). k + 1) (length-take-le count was (omega arith)) ∙ add-one count) in
@@ -202,7 +214,7 @@ module _ (code size count sum begun b : ℕ) (was : List ℕ) (h : size ≤ coun
   unfolding partOf wrong
   last-wrong = rw (lt-ltb 1 (length (startByte ∷ code ∷ size ∷ take count (take size was))) (omega arith))
 
-  last-yes : b ≡ sum → joining (partOf (Sized code size count sum) begun was) b ≡ packet code (take size was)
+  pub last-yes : b ≡ sum → joining (partOf (Sized code size count sum) begun was) b ≡ packet code (take size was)
   last-yes e =
       joins-packet (partOf (Sized code size count sum) begun was) b last-whole (last-wrong ∙ ap not (eq-eqb b sum e)) ∙ (unfold partOf in (ap (packet code) all-there))
 
@@ -210,7 +222,7 @@ module _ (code size count sum begun b : ℕ) (was : List ℕ) (h : size ≤ coun
   last-no n = joins-wrong (partOf (Sized code size count sum) begun was) b last-whole (last-wrong ∙ ap not (ne-eqb b sum n))
 
 -- a whole packet's payload is in the memory already
-kept-memory : (code size : ℕ) (was : List ℕ) → size ≤ length was → was ≡ over was (payloadIn (packet code (take size was)))
+pub kept-memory : (code size : ℕ) (was : List ℕ) → size ≤ length was → was ≡ over was (payloadIn (packet code (take size was)))
 unfolding payloadIn over
 kept-memory code size was l = rw (length-take-le size was l) (sym (take-append-drop size was))
 
@@ -218,14 +230,21 @@ empty-memory : (was : List ℕ) → was ≡ over was (payloadIn (goes empty))
 unfolding payloadIn over empty
 empty-memory was = refl
 
+-- a byte that is not earlier: the three things
+pub taken-three : (s : Collector) (time b : ℕ) (was : List ℕ) → s .last ≤ time → (t : Taken) → taking (partOf (s .stage) (s .begun) was) time b ≡ t
+    → (answerTo s was time b ≡ gives (told t)) × (collectorAfter s was time b ≡ behind time t) × (memoryAfter s was time b ≡ over was (payloadIn t))
+unfolding collecting mapped ifGiven answerTo collectorAfter memoryAfter
+taken-three s time b was fresh t e =
+    let g : refuseIf (ltb time (s .last)) (numberOf TimeEarlier) (gives (taking (partOf (s .stage) (s .begun) was) time b)) ≡ gives t =
+    refuse-no (numberOf TimeEarlier) (gives (taking (partOf (s .stage) (s .begun) was) time b)) (le-ltb time (s .last) fresh) ∙ ap gives e in
+    (rw g, rw g, rw g)
+
 module _ (s : Collector) (time b : ℕ) (was : List ℕ) (r : Collected) (fresh : s .last ≤ time) where
   byte-taken : (is : List ℕ) (t : Taken) → taking (partOf (s .stage) (s .begun) was) time b ≡ t → Told t time r → is ≡ over was (payloadIn t)
       → ByteCollected s time b was r is
-  unfolding collecting mapped ifGiven
   byte-taken is t e d m =
-      let g : refuseIf (ltb time (s .last)) (numberOf TimeEarlier) (gives (taking (partOf (s .stage) (s .begun) was) time b)) ≡ gives t =
-      refuse-no (numberOf TimeEarlier) (gives (taking (partOf (s .stage) (s .begun) was) time b)) (le-ltb time (s .last) fresh) ∙ ap gives e in
-      record { answer = rw g (d .answer); collector = rw g (d .collector); memory = rw g m }
+      let g = taken-three s time b was fresh t e in
+      record { answer = d .answer ∙ sym (g .0); collector = d .collector ∙ sym (g .1); memory = m ∙ sym (g .2) }
 
   pub byte-late : ltb packetTime (time - s .begun) ≡ true → Told (goes (begin time b)) time r → ByteCollected s time b was r was
   byte-late l d =
@@ -242,8 +261,7 @@ module _ (s : Collector) (time b : ℕ) (was : List ℕ) (r : Collected) (fresh 
     joins-at : (st : Stage) → s .stage ≡ st → 0 < length (partOf st (s .begun) was .bytes)
         → taking (partOf (s .stage) (s .begun) was) time b ≡ joining (partOf st (s .begun) was) b
     joins-at st e h =
-        ap (λ (u : Stage). taking (partOf u (s .begun) was) time b) e
-        ∙ taken-joins (partOf st (s .begun) was) time b h (late-of st (s .begun) time was ∙ soon)
+        ap (λ (u : Stage). taking (partOf u (s .begun) was) time b) e ∙ joined-at st (s .begun) time b was h soon
 
     pub byte-second : s .stage ≡ Started → Told (joining (started (s .begun)) b) time r → ByteCollected s time b was r was
     unfolding partOf started

@@ -1,1 +1,4 @@
 pub mod Collecting
+pub mod Collected
+pub mod WritesBack
+pub mod Determined

@@ -6,8 +6,9 @@ use mathlib.Core.Option.{Option, none, some}
 use lib.Bits.{bitXor}
 use lib.Dec.{ltb, eqb}
 use lib.ListN.{length, getD, take, drop}
-use Rattle.paper.specs.Outcome.{Outcome, gives, refuses, refuseIf}
+use Rattle.paper.specs.Outcome.{Outcome, gives, refuses, refuseIf, ifGiven, mapped}
 use Rattle.paper.specs.Refusals.{numberOf}
+use Rattle.paper.specs.Writing.{over}
 use Rattle.paper.specs.declared.refusal.Refusal.the-variants.{TimeEarlier}
 use Rattle.wire.specs.Request.{startByte, packetTime}
 use Rattle.device.specs.declared.collector.Stage.{Stage}
@@ -97,6 +98,16 @@ payloadIn (packet code payload) = payload
 unfoldable pub told : Taken → Option (ℕ × ℕ)
 told (goes p) = none
 told (packet code payload) = some (code, length payload)
+
+-- the three things that a byte leads to: an answer, the collector and the memory; where it is refused, both are as they were
+unfoldable pub answerTo : Collector → List ℕ → ℕ → ℕ → Outcome (Option (ℕ × ℕ))
+answerTo s mem time b = mapped told (collecting s mem time b)
+
+unfoldable pub collectorAfter : Collector → List ℕ → ℕ → ℕ → Collector
+collectorAfter s mem time b = ifGiven (collecting s mem time b) (behind time) s
+
+unfoldable pub memoryAfter : Collector → List ℕ → ℕ → ℕ → List ℕ
+memoryAfter s mem time b = ifGiven (collecting s mem time b) (λ x. over mem (payloadIn x)) mem
 
 -- what the code's answer means
 unfoldable pub completes : Completed → Outcome (Option (ℕ × ℕ))

@@ -1,3 +1,4 @@
 pub mod Collector
 pub mod Promises
+pub mod Feeding
 pub mod inner
