@@ -5,6 +5,7 @@ mod place;
 mod reading;
 mod storing;
 
+pub use place::SLOTS;
 pub use reading::all_read;
 pub use reading::held;
 pub use reading::turn;

@@ -4,7 +4,7 @@ ghost use Prim.Native.Nat.{_*_, _<_};
 ghost use Rattle.ring.specs.Ring.{slots, held, slotOf, slotStart, nextSlot, nextHead};
 
 // How many slots: `slots` of specs/Ring.antt is the same number, and every other number here follows from it.
-const SLOTS: usize = 64;
+pub const SLOTS: usize = 64;
 
 // The length of a ring's memory.
 pub const MEMORY: usize = 1 + 768 * SLOTS;

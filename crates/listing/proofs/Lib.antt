@@ -1,0 +1,6 @@
+pub mod Decimal
+pub mod Appends
+pub mod Cells
+pub mod Lines
+pub mod Determined
+pub mod Tails

@@ -1,0 +1,8 @@
+// The text of a ring, written into a lent buffer.
+mod image;
+mod line;
+mod text;
+mod turn;
+
+pub use image::ROOM;
+pub use image::list;
