@@ -1,0 +1,33 @@
+-- The numbers of the stops, and the twenty bytes that a stop answers.
+use mathlib.Core.List.{List, []}
+use Prim.Native.Nat.{ℕ}
+use Rattle.framing.specs.Calls.{Stop as Reason, allTaken, endedBy, noRoom}
+use Rattle.stream.specs.declared.Stop.{Stop}
+use Rattle.stream.specs.declared.Stop.the-variants.{AllTaken, NoRoom, Descriptor, Reply, BadHealth}
+use Rattle.stream.specs.Table.{Thing, headed, replied, unread, point}
+
+-- the paper's number of each stop
+unfoldable pub stopNumber : Stop → ℕ
+stopNumber AllTaken = 0
+stopNumber NoRoom = 1
+stopNumber Descriptor = 2
+stopNumber Reply = 3
+stopNumber BadHealth = 4
+
+-- the stop for each reason: a sample ends no call
+unfoldable pub stopFor : Reason Thing → ℕ
+stopFor allTaken = 0
+stopFor noRoom = 1
+stopFor (endedBy headed) = 2
+stopFor (endedBy (replied w)) = 3
+stopFor (endedBy unread) = 4
+stopFor (endedBy (point m)) = 0
+
+-- the reply, where one ended the call
+unfoldable pub replyFor : Reason Thing → List ℕ
+replyFor allTaken = []
+replyFor noRoom = []
+replyFor (endedBy headed) = []
+replyFor (endedBy (replied w)) = w
+replyFor (endedBy unread) = []
+replyFor (endedBy (point m)) = []
