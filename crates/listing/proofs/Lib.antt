@@ -3,4 +3,5 @@ pub mod Appends
 pub mod Cells
 pub mod Lines
 pub mod Determined
+pub mod Listed
 pub mod Tails
