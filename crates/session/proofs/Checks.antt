@@ -4,12 +4,11 @@ use mathlib.Core.Path.{_≡_, refl, sym, ap, _∙_}
 use mathlib.Core.Bool.{Bool, true, false, not, and-false}
 use mathlib.Core.List.{List}
 use native.Mathlib.Omega.{arith}
-use lib.Dec.{ltb, eqb}
 use lib.ListN.{length}
 use borrow.Author.Tests.{lt-ltb, le-ltb, eq-eqb, ne-eqb, not-true, not-false}
 use Rattle.paper.specs.Outcome.{Outcome, gives, refuses, refuseIf, ifGiven, mapped}
 use Rattle.paper.specs.Refusals.{numberOf, answered, written}
-use Rattle.paper.specs.Writing.{fitting, Writes}
+use Rattle.paper.specs.Writing.{Writes}
 use Rattle.paper.specs.declared.refusal.Refusal.{Refusal}
 use Rattle.paper.specs.declared.refusal.Refusal.the-variants.{CodeNotPermitted, TimeEarlier, WaitNotOver, ReplyAwaited}
 use Rattle.paper.specs.declared.refusal.Answer.{Answer}
@@ -98,7 +97,7 @@ module _ {A : Type 0} (s : Session) (time : ℕ) (k : Kind) (n : ℕ) (next : Ou
 
 -- ---- a sending's promise
 
-refused-other : {A B : Type 0} (f : A → ℕ) (o : Outcome A) (g : A → B) (other : B) {n : ℕ} → refuses n ≡ mapped f o → other ≡ ifGiven o g other
+pub refused-other : {A B : Type 0} (f : A → ℕ) (o : Outcome A) (g : A → B) (other : B) {n : ℕ} → refuses n ≡ mapped f o → other ≡ ifGiven o g other
 unfolding mapped ifGiven
 refused-other f (gives a) g other e = absurd (gives-refuses (sym e))
 refused-other f (refuses n) g other e = refl

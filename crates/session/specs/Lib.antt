@@ -1,3 +1,4 @@
 pub mod Session
 pub mod Promises
+pub mod History
 pub mod inner

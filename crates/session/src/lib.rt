@@ -53,6 +53,7 @@ impl Session {
                 answer: Written::Refused(q),
             };
         }
+        let next = accepted(time, kind);
         let answer = request.write(payload, out);
         if let Written::Refused(_) = answer {
             return Sent {
@@ -61,7 +62,7 @@ impl Session {
             };
         }
         Sent {
-            session: accepted(time, kind),
+            session: next,
             answer,
         }
     }

@@ -22,6 +22,9 @@ returns c = let d = c .before .before .before in
 enum-told : tie.Need-enum-told
 enum-told c = search needs
 
+accepted-requires : tie.Need-accepted-requires
+accepted-requires c κs = search needs
+
 write-requires : tie.Need-write-requires
 write-requires c κs = search needs
 
@@ -33,22 +36,21 @@ same-length c = search needs
 
 returns-2 : tie.Need-returns-2
 returns-2 c = let w = c .before .before .before .before in
-    let d = w .before .before .before .before in
-    sent-no (writes-same (passed-first _ _ (d .before .kind .ensures .answer) (d .check .ensures) (w .before .before .enum-told .given .1)) (w .write .ensures)) (c .enum-told2 .given .1)
+    let a = w .before .before in
+    let d = a .before .before .before in
+    sent-no (writes-same (passed-first _ _ (d .before .kind .ensures .answer) (d .check .ensures) (a .before .enum-told .given .1)) (w .write .ensures)) (c .enum-told2 .given .1)
 
 enum-told-3 : tie.Need-enum-told-3
 enum-told-3 c = search needs
-
-accepted-requires : tie.Need-accepted-requires
-accepted-requires c κs = search needs
 
 same-length-2 : tie.Need-same-length-2
 same-length-2 c = search needs
 
 returns-3 : tie.Need-returns-3
-returns-3 c = let w = c .before .before .before .before .before in
-    let d = w .before .before .before .before in
-    sent-yes (writes-same (passed-first _ _ (d .before .kind .ensures .answer) (d .check .ensures) (w .before .before .enum-told .given .1)) (w .write .ensures)) (c .before .enum-told3 .given .1) (d .before .kind .ensures .answer) (c .accepted .ensures .answer)
+returns-3 c = let w = c .before .before .before .before in
+    let a = w .before .before in
+    let d = a .before .before .before in
+    sent-yes (writes-same (passed-first _ _ (d .before .kind .ensures .answer) (d .check .ensures) (a .before .enum-told .given .1)) (w .write .ensures)) (c .enum-told3 .given .1) (d .before .kind .ensures .answer) (a .accepted .ensures .answer)
 
 pub send-spec : {M : Type 1} → statement M
 send-spec =
@@ -59,11 +61,11 @@ send-spec =
     enum-known-check
     returns
     enum-told
+    accepted-requires
     write-requires
     enum-told-2
     same-length
     returns-2
     enum-told-3
-    accepted-requires
     same-length-2
     returns-3)
