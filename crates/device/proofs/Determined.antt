@@ -1,5 +1,6 @@
 -- Two answers that a promise allows are equal: one theorem for each public function.
 use Prim.Native.Nat.{ℕ}
+use mathlib.Core.Bool.{Bool}
 use mathlib.Core.Path.{_≡_, refl, sym, ap, ap₂, _∙_}
 use mathlib.Core.List.{List}
 use mathlib.Core.Option.{Option, none, some}
@@ -8,13 +9,24 @@ use Rattle.paper.specs.Outcome.{Outcome, gives, refuses}
 use Rattle.paper.specs.Refusals.{numberOf}
 use Rattle.paper.proofs.Outcome.{gives-one, gives-refuses}
 use Rattle.paper.proofs.Refusals.{refused-one}
+use Rattle.paper.specs.Writing.{Writes}
+use Rattle.paper.specs.declared.refusal.Written.{Written}
+use Rattle.paper.proofs.Determined.{writes-determined}
 use Rattle.wire.specs.declared.request.Request.{Request}
+use Rattle.wire.specs.declared.reply.Info.{Info}
+use Rattle.wire.specs.declared.sample.Sample.{Sample}
 use Rattle.device.specs.Collector.{completes}
-use Rattle.device.specs.Promises.{FreshCollector, ByteCollected}
+use Rattle.device.specs.Model.{sampleSent, healthIsSet}
+use Rattle.device.specs.Promises.{FreshCollector, ByteCollected, FreshModel, Asking, InAnother, MotorSet, ErrorSet, HealthSetting}
 use Rattle.device.specs.declared.collector.Collector.{Collector}
 use Rattle.device.specs.declared.collector.Completed.{Completed}
 use Rattle.device.specs.declared.collector.Completed.the-variants.{Nothing, Packet, Refused}
 use Rattle.device.specs.declared.collector.Collected.{Collected}
+use Rattle.device.specs.declared.model.State.{State}
+use Rattle.device.specs.declared.model.Model.{Model}
+use Rattle.device.specs.declared.model.Asked.{Asked}
+use Rattle.device.specs.declared.model.HealthSet.{HealthSet}
+use Rattle.device.specs.declared.model.HealthSet.the-variants as healthSet
 
 none-some : {A : Type 0} {a : A} → none ≡ some a → ⊥
 none-some e = let z : _≡_ {A = ℕ} 0 1 = cc in omega arith
@@ -47,3 +59,39 @@ byte-determined {r = r} {q = q} x y =
     let a : r .completed ≡ q .completed = completes-one (r .completed) (q .completed) (x .answer ∙ sym (y .answer)) in
     let both : Collector → Completed → Collected = λ c a. record { collector = c; completed = a } in
     (ap₂ both c a, x .memory ∙ sym (y .memory))
+
+pub model-new-determined : {r s : Model} → FreshModel r → FreshModel s → r ≡ s
+model-new-determined p q = p .answer ∙ sym (q .answer)
+
+pub request-determined : {m : Model} {info : Info} {request : Request} {was : List ℕ} {r q : Asked} {is js : List ℕ} → Asking m info request was r is
+    → Asking m info request was q js → (r ≡ q) × (is ≡ js)
+request-determined {r = r} {q = q} x y =
+    let w = writes-determined (x .answer) (y .answer) in
+    let m : r .model ≡ q .model = x .model ∙ sym (y .model) in
+    let both : Model → Written → Asked = λ m a. record { model = m; answer = a } in
+    (ap₂ both m (w .0), w .1)
+
+pub sample-determined : (m : Model) (x : Sample) {was : List ℕ} {r q : Written} {is js : List ℕ} → Writes (sampleSent m x) was r is
+    → Writes (sampleSent m x) was q js → (r ≡ q) × (is ≡ js)
+sample-determined m x p q = writes-determined p q
+
+pub fault-determined : {m : Model} {s : State} {r q : Model} → InAnother m s r → InAnother m s q → r ≡ q
+fault-determined p q = p .answer ∙ sym (q .answer)
+
+pub motor-determined : {m : Model} {stable : Bool} {r q : Model} → MotorSet m stable r → MotorSet m stable q → r ≡ q
+motor-determined p q = p .answer ∙ sym (q .answer)
+
+pub error-determined : {m : Model} {error : ℕ} {r q : Model} → ErrorSet m error r → ErrorSet m error q → r ≡ q
+error-determined p q = p .answer ∙ sym (q .answer)
+
+-- a setting's answer is determined by what it means
+pub health-set-one : (r q : HealthSet) → healthIsSet r ≡ healthIsSet q → r ≡ q
+unfolding healthIsSet
+health-set-one (healthSet.Gives m) (healthSet.Gives n) e = ap healthSet.Gives (gives-one e)
+health-set-one (healthSet.Gives m) (healthSet.Refused b) e = absurd (gives-refuses e)
+health-set-one (healthSet.Refused a) (healthSet.Gives n) e = absurd (gives-refuses (sym e))
+health-set-one (healthSet.Refused a) (healthSet.Refused b) e = ap healthSet.Refused (refused-one a b e)
+
+-- of `Model::set_status` and `Model::set_health`
+pub setting-determined : {m : Model} {status error : ℕ} {r q : HealthSet} → HealthSetting m status error r → HealthSetting m status error q → r ≡ q
+setting-determined {r = r} {q = q} x y = health-set-one r q (x .answer ∙ sym (y .answer))

@@ -1,4 +1,6 @@
 pub mod Collecting
 pub mod Collected
 pub mod WritesBack
+pub mod Models
+pub mod ReadBack
 pub mod Determined

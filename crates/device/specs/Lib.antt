@@ -1,4 +1,5 @@
 pub mod Collector
+pub mod Model
 pub mod Promises
 pub mod Feeding
 pub mod inner

@@ -1,2 +1,3 @@
-// The bench's side of the line: the collector of requests.
+// The bench's side of the line: the collector of requests and the model of the scanner.
 pub mod collector;
+pub mod model;

@@ -1,0 +1,112 @@
+-- What the model sends reads back: its descriptors are the expected ones, and its info, health and samples are what the bench gave.
+-- `scan-read`, `info-read`, `health-read` over the promise of a request, `sample-read` over that of a sample, `descriptors-read` of the three descriptors.
+use Prim.Native.Nat.{ℕ, _+_, _<_, _≤_}
+use mathlib.Core.Path.{_≡_, refl, sym, ap, _∙_}
+use mathlib.Core.Bool.{Bool, true, false, not}
+use mathlib.Core.List.{List, [], _∷_, _++_}
+use native.Mathlib.Omega.{arith}
+use lib.Dec.{ltb}
+use lib.ListN.{length, take, drop}
+use lib.Seq.{take-at, drop-at}
+use borrow.Author.Tests.{ltb-true, ltb-false}
+use Rattle.paper.specs.Outcome.{Outcome, gives, refuses, refuseIf, ifGiven, mapped}
+use Rattle.paper.specs.Refusals.{numberOf, written}
+use Rattle.paper.specs.Words.{valueOf, bytesOf}
+use Rattle.paper.specs.Writing.{Writes, over, fitting}
+use Rattle.paper.specs.declared.refusal.Refusal.the-variants.{NoSampleSent}
+use Rattle.paper.specs.declared.refusal.Written.{Written}
+use Rattle.paper.specs.declared.refusal.Written.the-variants as writing
+use Rattle.paper.proofs.Outcome.{gives-one, gives-refuses, refuse-not}
+use Rattle.paper.proofs.Writing.{fitting-yes, fitting-no}
+use Rattle.wire.specs.Request.{kindOf}
+use Rattle.wire.specs.Descriptor.{isDescriptor, descriptorIn, descriptorOf, scanDescriptor, infoDescriptor, healthDescriptor}
+use Rattle.wire.specs.Reply.{infoOf, bytesOfInfo, healthOf, bytesOfHealth}
+use Rattle.wire.specs.Sample.{sampleOf, bytesOfSample}
+use Rattle.wire.proofs.WriteThenRead.{info-back, health-back, sample-back}
+use Rattle.wire.specs.declared.request.Request.{Request}
+use Rattle.wire.specs.declared.request.Kind.{Kind}
+use Rattle.wire.specs.declared.request.Kind.the-variants.{Scan, ForceScan, GetInfo, GetHealth}
+use Rattle.wire.specs.declared.descriptor.Descriptor.{Descriptor}
+use Rattle.wire.specs.declared.reply.Info.{Info}
+use Rattle.wire.specs.declared.reply.Health.{Health}
+use Rattle.wire.specs.declared.sample.Sample.{Sample}
+use Rattle.device.specs.Model.{protected, healthNow, behindDescriptor, sent, sendsSamples, sampleSent}
+use Rattle.device.specs.Promises.{Asking}
+use Rattle.device.proofs.Models.{health-sent}
+use Rattle.device.specs.declared.model.Model.{Model}
+use Rattle.device.specs.declared.model.Asked.{Asked}
+
+-- what stands at the front of the output, where n bytes were written
+record Front (o : Outcome (List ℕ)) (n : ℕ) (is : List ℕ) : Type 0 where
+  bytes : List ℕ
+  given : o ≡ gives bytes
+  front : take n is ≡ bytes
+
+-- a writer that wrote n bytes gave them, and they stand at the front
+written-front : (o : Outcome (List ℕ)) (was is : List ℕ) (n : ℕ) → Writes o was (writing.Bytes n) is → Front o n is
+unfolding written fitting mapped ifGiven over
+written-front (refuses m) was is n w = absurd (gives-refuses (w .answer))
+written-front (gives xs) was is n w = go (ltb (length was) (length xs)) refl
+  where
+    go : (t : Bool) → ltb (length was) (length xs) ≡ t → Front (gives xs) n is
+    go true e = absurd (gives-refuses (w .answer ∙ ap (mapped length) (fitting-no xs (length was) (ltb-true (length was) (length xs) e))))
+    go false e =
+        let f = fitting-yes xs (length was) (ltb-false (length was) (length xs) e) in
+        let size : n ≡ length xs = gives-one (w .answer ∙ ap (mapped length) f) in
+        let all : is ≡ over was xs = w .output ∙ ap (λ (o : Outcome (List ℕ)). ifGiven o (over was) was) f in
+        record { bytes = xs; given = refl; front = ap (take n) all ∙ take-at xs (drop (length xs) was) n (sym size) }
+
+-- a reply behind its descriptor
+behind-front : (d : List ℕ) (o : Outcome (List ℕ)) (n : ℕ) (is : List ℕ) → length d ≡ 7 → Front (behindDescriptor d o) n is
+    → (take 7 (take n is) ≡ d) × (o ≡ gives (drop 7 (take n is)))
+unfolding behindDescriptor mapped
+behind-front d (refuses m) n is l f = absurd (gives-refuses (sym (f .given)))
+behind-front d (gives xs) n is l f =
+    let all : take n is ≡ d ++ xs = f .front ∙ sym (gives-one (f .given)) in
+    (ap (take 7) all ∙ take-at d xs 7 l, ap gives (sym (ap (drop 7) all ∙ drop-at d xs 7 l)))
+
+-- the three descriptors, by the definition of reading one: five bytes again and again, twenty bytes once, three bytes once
+pub descriptors-read : (descriptorOf scanDescriptor ≡ gives (record { length = 5; mode = 1; kind = 0x81 }))
+    × (descriptorOf infoDescriptor ≡ gives (record { length = 20; mode = 0; kind = 0x04 }))
+    × (descriptorOf healthDescriptor ≡ gives (record { length = 3; mode = 0; kind = 0x06 }))
+unfolding descriptorOf isDescriptor descriptorIn scanDescriptor infoDescriptor healthDescriptor refuseIf valueOf
+descriptors-read = (refl, refl, refl)
+
+-- a request that was answered with n bytes
+module _ (m : Model) (info : Info) (request : Request) (was is : List ℕ) (r : Asked) (n : ℕ) (done : r .answer ≡ writing.Bytes n)
+    (asking : Asking m info request was r is) where
+  front-of : (kind : Kind) → kindOf (request .0) ≡ kind → Front (sent m info kind) n is
+  front-of kind k = written-front (sent m info kind) was is n (rw (k, done) at (asking .answer))
+
+  -- SCAN and FORCE_SCAN: the expected descriptor, or nothing in protection stop
+  pub scan-read : kindOf (request .0) ≡ Scan → take n is ≡ protected (m .state) [] scanDescriptor
+  unfolding sent
+  scan-read k = let f = front-of Scan k in f .front ∙ sym (gives-one (f .given))
+
+  pub force-scan-read : kindOf (request .0) ≡ ForceScan → take n is ≡ protected (m .state) [] scanDescriptor
+  unfolding sent
+  force-scan-read k = let f = front-of ForceScan k in f .front ∙ sym (gives-one (f .given))
+
+  -- GET_INFO: the expected descriptor, and then bytes that read to the info that the bench gave
+  pub info-read : kindOf (request .0) ≡ GetInfo → length (info .serial) ≡ 16 → (take 7 (take n is) ≡ infoDescriptor) × (infoOf (drop 7 (take n is)) ≡ gives info)
+  unfolding sent infoDescriptor
+  info-read k l =
+      let f = behind-front infoDescriptor (bytesOfInfo info) n is refl (front-of GetInfo k) in
+      (f .0, info-back info (drop 7 (take n is)) l (f .1))
+
+  -- GET_HEALTH: the expected descriptor, and then bytes that read to the model's health
+  pub health-read : kindOf (request .0) ≡ GetHealth → m .error < 65536
+      → (take 7 (take n is) ≡ healthDescriptor) × (healthOf (drop 7 (take n is)) ≡ gives (healthNow m))
+  unfolding sent healthDescriptor healthNow
+  health-read k l =
+      let f = behind-front healthDescriptor (bytesOfHealth (healthNow m)) n is refl (front-of GetHealth k) in
+      (f .0, health-back (healthNow m) (drop 7 (take n is)) l (f .1))
+
+-- a sample that was sent reads to the one that the bench gave
+pub sample-read : (m : Model) (x : Sample) (was is : List ℕ) (n : ℕ) → x .distance .0 < 65536 → Writes (sampleSent m x) was (writing.Bytes n) is
+    → sampleOf (take n is) ≡ gives x
+unfolding sampleSent
+sample-read m x was is n l w =
+    let f = written-front (sampleSent m x) was is n w in
+    let g = refuse-not (not (sendsSamples (m .state) (m .stable))) (numberOf NoSampleSent) (bytesOfSample x) (f .given) in
+    rw (f .front) (sample-back x (f .bytes) l (g .1))
