@@ -1,0 +1,6 @@
+pub mod Filling
+pub mod CellRule
+pub mod Taking
+pub mod Gathering
+pub mod Counts
+pub mod Determined

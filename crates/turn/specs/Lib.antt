@@ -1,0 +1,5 @@
+pub mod Cells
+pub mod Turns
+pub mod Gather
+pub mod Promises
+pub mod inner
