@@ -5,18 +5,14 @@ use Prim.Native.Nat.{ℕ}
 use lib.ListN.{getD}
 use Rattle.paper.specs.declared.refusal.Answer.{Answer}
 use Rattle.paper.proofs.Refusals.{answered-one}
-use Rattle.framing.specs.Calls.{Stop as Reason}
 use Rattle.wire.specs.declared.request.Request.{Request}
 use Rattle.stream.specs.declared.Stop.{Stop}
 use Rattle.stream.specs.declared.Stop.the-variants.{AllTaken, NoRoom, Descriptor, Reply, BadHealth}
 use Rattle.stream.specs.declared.Reader.{Reader}
 use Rattle.stream.specs.declared.Reading.{Reading}
 use Rattle.stream.specs.declared.Told.{Told}
-use Rattle.stream.specs.Table.{Thing}
-use Rattle.stream.specs.Stops.{stopNumber, stopFor}
+use Rattle.stream.specs.Stops.{stopNumber}
 use Rattle.stream.specs.Promises.{Made, Reads, Tells}
-use Rattle.stream.specs.inner.Account.{stopOf}
-use Rattle.stream.proofs.inner.Promise.{stop-number}
 
 -- the stop of a number
 stopAt : ℕ → Stop
@@ -33,9 +29,6 @@ stop-back BadHealth = refl
 -- two stops with one number are the same
 pub stop-one : (s t : Stop) → stopNumber s ≡ stopNumber t → s ≡ t
 stop-one s t e = sym (stop-back s) ∙ ap stopAt e ∙ stop-back t
-
-pub stop-is : (s : Stop) (w : Reason Thing) → stopNumber s ≡ stopFor w → s ≡ stopOf w
-stop-is s w e = stop-one s (stopOf w) (e ∙ sym (stop-number w))
 
 pub made-determined : {r s : Reader} → Made r → Made s → r ≡ s
 made-determined p q = p .answer ∙ sym (q .answer)

@@ -15,11 +15,10 @@ use Rattle.stream.specs.declared.Reader.{Reader}
 use Rattle.stream.specs.declared.Reading.{Reading}
 use Rattle.stream.specs.Table.{Event, Thing, reader, giving}
 use Rattle.stream.specs.State.{meaning, twenty, written}
-use Rattle.stream.specs.Stops.{replyFor}
+use Rattle.stream.specs.Stops.{replyFor, stopOf}
 use Rattle.stream.specs.Promises.{called, rowGiven, Reads}
 use Rattle.stream.specs.History.{Seen, seenBy, History, over, reads}
-use Rattle.stream.specs.inner.Account.{stopOf}
-use Rattle.stream.proofs.inner.Promise.{three-most, stop-number}
+use Rattle.stream.proofs.inner.Promise.{three-most}
 
 -- a call with a byte at hand and room for three words takes a byte
 pub call-goes-on : {s : Reader} {b : ℕ} {bs was row : List ℕ} {r : Reading} → Reads s (b ∷ bs) was r row → 3 ≤ length was → 1 ≤ r .taken
@@ -38,7 +37,7 @@ call-answers s input was =
         reply = twenty (replyFor (a .stop));
       },
       over-row was (rowGiven s input was),
-      record { reader = refl; taken = refl; words = refl; stop = stop-number (a .stop); reply = refl; row = refl },
+      record { reader = refl; taken = refl; words = refl; stop = refl; reply = refl; row = refl },
     )
 
 -- so with rows of three words every stream of bytes can be used up

@@ -34,13 +34,12 @@ use Rattle.stream.specs.declared.Reading.{Reading}
 use Rattle.stream.specs.declared.Told.{Told}
 use Rattle.stream.specs.Table.{Event, Thing, headed, replied, unread, point, width, reader, giving, endsCall, rowOf}
 use Rattle.stream.specs.State.{heldOf, meaning, twenty, capped, written, idle}
-use Rattle.stream.specs.Stops.{replyFor}
+use Rattle.stream.specs.Stops.{replyFor, stopOf}
 use Rattle.stream.specs.Telling.{opens, begins}
 use Rattle.stream.specs.Promises.{called, rowGiven, Reads, Tells}
 use Rattle.stream.specs.History.{Seen, word, notice, taken, noticeBy, seenBy, toldBy, seenOf, History, over, reads, tells, Plain}
-use Rattle.stream.specs.inner.Account.{stopOf}
 use Rattle.stream.proofs.Table.{width-pos, reader-lawful, by-window, one-thing}
-use Rattle.stream.proofs.Determined.{stop-is}
+use Rattle.stream.proofs.Determined.{stop-one}
 use Rattle.stream.proofs.inner.Hold.{capped-capped}
 use Rattle.stream.proofs.inner.Promise.{waits}
 
@@ -115,7 +114,7 @@ module _ {s : Reader} {input was row : List ℕ} {r : Reading} (h : Reads s inpu
   unfolding seenBy called rowGiven over-row
   call-seen =
       let words : take (r .words) row ≡ flatMap rowOf (a .given) = rw (h .words, h .row) (take-at (flatMap rowOf (a .given)) _ (length (flatMap rowOf (a .given))) refl) in
-      rw (words, stop-is (r .stop) (a .stop) (h .stop), h .reply) (sym (given-seen (a .given) (a .stop) (call-ended reader giving (meaning s) [] input (length was))))
+      rw (words, stop-one (r .stop) (stopOf (a .stop)) (h .stop), h .reply) (sym (given-seen (a .given) (a .stop) (call-ended reader giving (meaning s) [] input (length was))))
 
 -- ---- a history is a use of the framing
 

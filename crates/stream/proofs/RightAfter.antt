@@ -26,13 +26,13 @@ use Rattle.stream.specs.declared.Reader.{Reader}
 use Rattle.stream.specs.declared.Reading.{Reading}
 use Rattle.stream.specs.Table.{Event, descriptor, reply, badHealth, samples, Thing, headed, replied, unread, readSample, same, seeking, width, says, follows, reader, giving, thingsOf, wordsFor, endsCall, rowOf}
 use Rattle.stream.specs.State.{heldOf}
-use Rattle.stream.specs.Stops.{replyFor}
+use Rattle.stream.specs.Stops.{replyFor, stopOf}
 use Rattle.stream.specs.Readings.{firstPlace}
 use Rattle.stream.specs.Promises.{called, Reads}
-use Rattle.stream.specs.inner.Account.{stopOf, put, Account, account, comesTo}
+use Rattle.stream.specs.inner.Account.{put, Account, account, comesTo}
 use Rattle.stream.specs.inner.Seek.{Seeks}
 use Rattle.stream.specs.inner.Reply.{bad, Awaits}
-use Rattle.stream.proofs.Determined.{stop-is}
+use Rattle.stream.proofs.Determined.{stop-one}
 use Rattle.stream.proofs.inner.Account.{comes-short, comes-skip, comes-sample, comes-full, comes-ended}
 use Rattle.stream.proofs.inner.Promise.{whole}
 use Rattle.stream.proofs.inner.Seek.{seeks-info, seeks-health, seeks-scan}
@@ -163,7 +163,7 @@ module _ {s : Reader} {input was row : List ℕ} {r : Reading} (h : Reads s inpu
 
   o-stop : (p : Phase) → s .phase ≡ p → o p .stop ≡ r .stop
   unfolding account
-  o-stop p e = ap (λ (x : Phase). o x .stop) (sym e) ∙ ap (λ (x : Account). x .stop) (whole s input was) ∙ sym (stop-is (r .stop) (called s input was .stop) (h .stop))
+  o-stop p e = ap (λ (x : Phase). o x .stop) (sym e) ∙ ap (λ (x : Account). x .stop) (whole s input was) ∙ sym (stop-one (r .stop) (stopOf (called s input was .stop)) (h .stop))
 
   o-taken : (p : Phase) → s .phase ≡ p → o p .taken ≡ length (heldOf s) + r .taken
   unfolding account

@@ -21,6 +21,7 @@ use Rattle.wire.specs.declared.sample.Sample.{Sample}
 use Rattle.wire.specs.Sample.{sampleOf}
 use Rattle.wire.specs.Reply.{healthOf}
 use Rattle.wire.specs.Descriptor.{infoDescriptor, healthDescriptor, scanDescriptor}
+use Rattle.stream.specs.Stops.{stopOf}
 use Rattle.stream.specs.declared.Phase.{Phase}
 use Rattle.stream.specs.declared.Phase.the-variants.{Idle, SeekInfo, SeekHealth, SeekScan, InfoReply, HealthReply, Scanning}
 use Rattle.stream.specs.declared.Stop.{Stop}
@@ -30,9 +31,8 @@ use Rattle.stream.specs.declared.Reading.{Reading}
 use Rattle.stream.specs.Table.{Event, descriptor, reply, badHealth, samples, Thing, headed, replied, unread, point, readHealth, readSample, same, seeking, width, says, reader, giving, thingsOf, wordsFor, endsCall}
 use Rattle.stream.specs.State.{heldOf, meaning, written}
 use Rattle.stream.specs.Promises.{called, rowGiven, Reads}
-use Rattle.stream.specs.inner.Account.{stopOf}
 use Rattle.stream.proofs.Table.{reader-lawful, by-window, one-thing}
-use Rattle.stream.proofs.Determined.{stop-is}
+use Rattle.stream.proofs.Determined.{stop-one}
 use Rattle.stream.proofs.History.{call-means, call-none-due}
 use Rattle.stream.proofs.inner.Promise.{row-length, three-most, waits}
 
@@ -130,7 +130,7 @@ module _ {s : Reader} {input was row : List ℕ} {r : Reading} (h : Reads s inpu
   a = called s input was
 
   reason : {x : Stop} → r .stop ≡ x → stopOf (a .stop) ≡ x
-  reason e = sym (stop-is (r .stop) (a .stop) (h .stop)) ∙ e
+  reason e = sym (stop-one (r .stop) (stopOf (a .stop)) (h .stop)) ∙ e
 
   -- STOP 0: all input is taken
   pub stop-all : r .stop ≡ AllTaken → r .taken ≡ length input

@@ -31,16 +31,6 @@ width-pos InfoReply = omega arith
 width-pos HealthReply = omega arith
 width-pos Scanning = omega arith
 
-pub width-most : (p : Phase) → width p ≤ 20
-unfolding width
-width-most Idle = omega arith
-width-most SeekInfo = omega arith
-width-most SeekHealth = omega arith
-width-most SeekScan = omega arith
-width-most InfoReply = omega arith
-width-most HealthReply = omega arith
-width-most Scanning = omega arith
-
 pub reader-lawful : Lawful reader
 reader-lawful = staged-lawful looks follows (λ p. windowed-within (width p) (says p) 0 (width-pos p))
 

@@ -16,7 +16,7 @@ use Rattle.stream.specs.declared.Told.{Told}
 use Rattle.wire.specs.declared.request.Request.{Request}
 use Rattle.stream.specs.Table.{Event, Thing, reader, giving, rowOf}
 use Rattle.stream.specs.State.{heldOf, meaning, twenty, written, idle}
-use Rattle.stream.specs.Stops.{stopNumber, stopFor, replyFor}
+use Rattle.stream.specs.Stops.{stopNumber, stopOf, replyFor}
 use Rattle.stream.specs.Telling.{opens}
 
 -- `Reader::new`
@@ -36,7 +36,7 @@ pub record Reads (self : Reader) (input was : List ℕ) (r : Reading) (is : List
   pub reader : r .reader ≡ written (called self input was .result .end) (self .skipped + skipped (called self input was .result .steps))
   pub taken : r .taken ≡ called self input was .taken
   pub words : r .words ≡ length (rowGiven self input was)
-  pub stop : stopNumber (r .stop) ≡ stopFor (called self input was .stop)
+  pub stop : stopNumber (r .stop) ≡ stopNumber (stopOf (called self input was .stop))
   pub reply : r .reply ≡ twenty (replyFor (called self input was .stop))
   pub row : is ≡ over was (rowGiven self input was)
 

@@ -14,14 +14,14 @@ stopNumber Descriptor = 2
 stopNumber Reply = 3
 stopNumber BadHealth = 4
 
--- the stop for each reason: a sample ends no call
-unfoldable pub stopFor : Reason Thing → ℕ
-stopFor allTaken = 0
-stopFor noRoom = 1
-stopFor (endedBy headed) = 2
-stopFor (endedBy (replied w)) = 3
-stopFor (endedBy unread) = 4
-stopFor (endedBy (point m)) = 0
+-- the stop for each reason; a sample ends no call
+unfoldable pub stopOf : Reason Thing → Stop
+stopOf allTaken = AllTaken
+stopOf noRoom = NoRoom
+stopOf (endedBy headed) = Descriptor
+stopOf (endedBy (replied w)) = Reply
+stopOf (endedBy unread) = BadHealth
+stopOf (endedBy (point m)) = AllTaken
 
 -- the reply, where one ended the call
 unfoldable pub replyFor : Reason Thing → List ℕ

@@ -8,8 +8,8 @@ ghost use mathlib.Core.Path.{_≡_};
 ghost use Prim.Native.Nat.{ℕ, _≤_};
 ghost use lib.ListN.{length};
 ghost use Rattle.stream.specs.inner.Account.{Comes};
-ghost use Rattle.stream.specs.inner.Joint.{Joins};
-ghost use Rattle.stream.specs.inner.Seek.{Seeks, SoughtTo, SeekPlace, seekAnswer};
+ghost use Rattle.stream.specs.inner.Joint.{Joins, Placed};
+ghost use Rattle.stream.specs.inner.Seek.{Seeks, SoughtTo, seekAnswer};
 
 // The first place at which the seven bytes stand, or the first at which there are too few.
 pub struct Match {
@@ -39,7 +39,7 @@ fn seek(head: &[u8; 7], part: &[u8], from: usize) -> Match
 }
 
 fn answer(phase: Phase, next: Phase, part: &[u8], place: Match, h: usize, skipped: u32) -> Reading
-    requires { ⌜ SeekPlace (now part) (place .at) (place .found) h ⌝ }
+    requires { ⌜ Placed 6 (now part) (place .at) (place .found) h ⌝ }
     ensures { λ r. ⌜ r ≡ seekAnswer phase next (now (part .entry)) (place .at) (place .found) h skipped ⌝ }
 {
     let at = place.at;

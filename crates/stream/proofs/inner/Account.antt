@@ -20,8 +20,8 @@ use Rattle.wire.specs.Sample.{wordsOf}
 use Rattle.stream.specs.declared.Phase.{Phase}
 use Rattle.stream.specs.declared.Stop.the-variants.{AllTaken, NoRoom}
 use Rattle.stream.specs.Table.{Event, samples, Thing, point, width, says, follows, reader, giving, thingsOf, wordsFor, endsCall, rowOf}
-use Rattle.stream.specs.Stops.{replyFor}
-use Rattle.stream.specs.inner.Account.{stopOf, put, Account, account, comesTo, Moves}
+use Rattle.stream.specs.Stops.{replyFor, stopOf}
+use Rattle.stream.specs.inner.Account.{put, Account, account, comesTo, Moves}
 use Rattle.stream.proofs.Table.{width-pos, reader-lawful, by-window}
 
 -- ---- a step, and then what comes behind it

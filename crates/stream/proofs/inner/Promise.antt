@@ -9,7 +9,7 @@ use lib.Seq.{sets, sets-eq, length-sets, take-at, drop-set-lt, length-take-le}
 use Rattle.paper.specs.Writing.{over}
 use Rattle.framing.specs.Framing.{more, State, fresh, test}
 use Rattle.framing.specs.Run.{stopped, joined, skipped}
-use Rattle.framing.specs.Calls.{wordsOf as wordsIn, Stop as Reason, allTaken, endedBy, noRoom, Answer, call}
+use Rattle.framing.specs.Calls.{wordsOf as wordsIn, Answer, call}
 use Rattle.framing.proofs.Calls.{call-words}
 use Rattle.framing.proofs.Places.{behind, call-held}
 use Rattle.framing.proofs.Windows.{look-few}
@@ -20,9 +20,9 @@ use Rattle.stream.specs.declared.Reader.{Reader}
 use Rattle.stream.specs.declared.Reading.{Reading}
 use Rattle.stream.specs.Table.{Event, Thing, headed, replied, unread, point, width, reader, giving, wordsFor, rowOf}
 use Rattle.stream.specs.State.{heldOf, meaning, twenty, written}
-use Rattle.stream.specs.Stops.{stopNumber, stopFor, replyFor}
+use Rattle.stream.specs.Stops.{stopNumber, replyFor, stopOf}
 use Rattle.stream.specs.Promises.{called, rowGiven, Reads}
-use Rattle.stream.specs.inner.Account.{stopOf, put, Account, account, comesTo, readingOf, Comes}
+use Rattle.stream.specs.inner.Account.{put, Account, account, comesTo, readingOf, Comes}
 use Rattle.stream.proofs.Table.{width-pos, reader-lawful, by-window}
 
 -- ---- the row of words
@@ -73,15 +73,6 @@ put-eq ws u (point m ∷ xs) h =
 
 -- ---- the promise
 
-pub stop-number : (w : Reason Thing) → stopNumber (stopOf w) ≡ stopFor w
-unfolding stopNumber stopOf stopFor
-stop-number allTaken = refl
-stop-number noRoom = refl
-stop-number (endedBy headed) = refl
-stop-number (endedBy (replied w)) = refl
-stop-number (endedBy unread) = refl
-stop-number (endedBy (point m)) = refl
-
 -- fewer bytes are held than are looked at together
 pub held-few : (r : Reader) → length (heldOf r) < width (r .phase)
 unfolding heldOf
@@ -126,7 +117,7 @@ module _ (self : Reader) (input was : List ℕ) where
         reader = ap (λ (x : Reading). x .reader) h;
         taken = ap (λ (x : Reading). x .taken) h ∙ omega arith;
         words = ap (λ (x : Reading). x .words) h ∙ zero-add _;
-        stop = ap (λ (x : Reading). stopNumber (x .stop)) h ∙ stop-number (a .stop);
+        stop = ap (λ (x : Reading). stopNumber (x .stop)) h;
         reply = ap (λ (x : Reading). x .reply) h;
         row = sym g ∙ ap (λ (x : Account). x .words) (sym q) ∙ whole-words;
       }

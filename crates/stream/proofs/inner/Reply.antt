@@ -26,9 +26,9 @@ use Rattle.stream.specs.declared.Reader.{Reader}
 use Rattle.stream.specs.declared.Reading.{Reading}
 use Rattle.stream.specs.Table.{Event, reply, badHealth, Thing, replied, unread, readHealth, width, says, follows, reader, giving, thingsOf, wordsFor, endsCall, rowOf}
 use Rattle.stream.specs.State.{heldOf, twenty, capped, written}
-use Rattle.stream.specs.Stops.{replyFor}
+use Rattle.stream.specs.Stops.{replyFor, stopOf}
 use Rattle.stream.specs.Promises.{Reads}
-use Rattle.stream.specs.inner.Account.{stopOf, put, Account, comesTo, readingOf, Comes}
+use Rattle.stream.specs.inner.Account.{put, Account, comesTo, readingOf, Comes}
 use Rattle.stream.specs.inner.Hold.{holding}
 use Rattle.stream.specs.inner.Reply.{bad, Awaits, Replies}
 use Rattle.stream.proofs.inner.Account.{comes-short, comes-skip, comes-ended}

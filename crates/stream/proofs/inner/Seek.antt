@@ -19,16 +19,16 @@ use Rattle.stream.specs.declared.Reading.{Reading}
 use Rattle.wire.specs.Descriptor.{infoDescriptor, healthDescriptor, scanDescriptor}
 use Rattle.stream.specs.Table.{Event, descriptor, headed, same, seeking, width, says, follows, reader, thingsOf, wordsFor, endsCall, rowOf}
 use Rattle.stream.specs.State.{twenty, capped, written}
-use Rattle.stream.specs.Stops.{replyFor}
-use Rattle.stream.specs.inner.Account.{stopOf, put, Account, comesTo, Moves, readingOf, Comes}
+use Rattle.stream.specs.Stops.{replyFor, stopOf}
+use Rattle.stream.specs.inner.Account.{put, Account, comesTo, Moves, readingOf, Comes}
 use Rattle.stream.specs.inner.Hold.{holding}
-use Rattle.stream.specs.inner.Joint.{Joins}
-use Rattle.stream.specs.inner.Seek.{Seeks, Sought, SeekEnd, SoughtTo, seekAnswer, SeekPlace}
+use Rattle.stream.specs.inner.Joint.{Joins, Placed}
+use Rattle.stream.specs.inner.Seek.{Seeks, Sought, SeekEnd, SoughtTo, seekAnswer}
 use Rattle.stream.proofs.Table.{same-true, same-refl}
 use Rattle.stream.proofs.inner.Account.{comes-short, comes-ended, moves-none, moves-skip}
 use Rattle.stream.proofs.inner.Hold.{capped-capped}
 use Rattle.stream.proofs.inner.Promise.{comes}
-use Rattle.stream.proofs.inner.Joint.{to-end, joint-all, joint-only, joint-from, joint-on}
+use Rattle.stream.proofs.inner.Joint.{to-end, not-both, joint-all, joint-only, joint-from, joint-on}
 
 -- ---- what each phase seeks
 
@@ -142,13 +142,10 @@ module _ {p q : Phase} {d : List ℕ} (z : Seeks p d q) where
 
 -- ---- as code meets it
 
-not-both : {A : Type 0} (t : Bool) → t ≡ true → t ≡ false → A
-not-both t e f = let z : _≡_ {A = ℕ} 0 1 = cc in absurd (omega arith)
-
-pub seek-place : {d part : List ℕ} {b i : ℕ} {t : Bool} {h : ℕ} → SoughtTo d part b i t → h ≤ 6 → h ≤ length part → SeekPlace part i t h
+pub seek-place : {d part : List ℕ} {b i : ℕ} {t : Bool} {h : ℕ} → SoughtTo d part b i t → h ≤ 6 → h ≤ length part → Placed 6 part i t h
 unfolding SeekEnd
-seek-place {t = true} s q l = record { few = q; has = l; within = s .sought .within; whole = λ e. s .end .0; short = λ e. not-both true refl e }
-seek-place {t = false} s q l = record { few = q; has = l; within = s .sought .within; whole = λ e. not-both false e refl; short = λ e. s .end }
+seek-place {t = true} s q l = record { few = q; has = l; within = s .sought .within; whole = λ e. omega (arith, s .end .0); short = λ e. not-both true refl e }
+seek-place {t = false} s q l = record { few = q; has = l; within = s .sought .within; whole = λ e. not-both false e refl; short = λ e. omega (arith, s .end) }
 
 known : {d part : List ℕ} {b i : ℕ} {t : Bool} → SoughtTo d part b i t → (u : Bool) → t ≡ u → SoughtTo d part b i u
 known s u e = rw e at s

@@ -6,25 +6,15 @@ use lib.ListN.{length, take, drop}
 use lib.Seq.{sets}
 use Rattle.framing.specs.Framing.{State, fresh}
 use Rattle.framing.specs.Run.{skipped}
-use Rattle.framing.specs.Calls.{Stop as Reason, allTaken, endedBy, noRoom, Answer, call}
+use Rattle.framing.specs.Calls.{Answer, call}
 use Rattle.wire.specs.declared.sample.Sample.{Sample}
 use Rattle.wire.specs.Sample.{wordsOf}
 use Rattle.stream.specs.declared.Phase.{Phase}
 use Rattle.stream.specs.declared.Stop.{Stop}
-use Rattle.stream.specs.declared.Stop.the-variants.{AllTaken, NoRoom, Descriptor, Reply, BadHealth}
 use Rattle.stream.specs.declared.Reading.{Reading}
 use Rattle.stream.specs.Table.{Event, Thing, headed, replied, unread, point, reader, giving, rowOf}
 use Rattle.stream.specs.State.{twenty, written}
-use Rattle.stream.specs.Stops.{replyFor}
-
--- the stop for each reason, as the code's case
-unfoldable pub stopOf : Reason Thing → Stop
-stopOf allTaken = AllTaken
-stopOf noRoom = NoRoom
-stopOf (endedBy headed) = Descriptor
-stopOf (endedBy (replied w)) = Reply
-stopOf (endedBy unread) = BadHealth
-stopOf (endedBy (point m)) = AllTaken
+use Rattle.stream.specs.Stops.{stopOf, replyFor}
 
 -- the words of things, stored from u on
 unfoldable pub put : List ℕ → ℕ → List Thing → List ℕ

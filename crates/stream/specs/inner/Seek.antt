@@ -38,11 +38,3 @@ pub record SoughtTo (d part : List ℕ) (b i : ℕ) (t : Bool) : Type 0 where
 unfoldable pub seekAnswer : Phase → Phase → List ℕ → ℕ → Bool → ℕ → ℕ → Reading
 seekAnswer p q part i true h k = record { reader = holding q [] k; taken = i + 7 - h; words = 0; stop = Descriptor; reply = twenty [] }
 seekAnswer p q part i false h k = record { reader = holding p (drop i part) k; taken = length part - h; words = 0; stop = AllTaken; reply = twenty [] }
-
--- what that asks of the place
-pub record SeekPlace (part : List ℕ) (i : ℕ) (t : Bool) (h : ℕ) : Type 0 where
-  pub few : h ≤ 6
-  pub has : h ≤ length part
-  pub within : i ≤ length part
-  pub whole : t ≡ true → i + 7 ≤ length part
-  pub short : t ≡ false → length part < i + 7
