@@ -90,7 +90,7 @@ module _ (p : Part) (b : ℕ) where
 pub told-same : {t u : Taken} {time : ℕ} {r : Collected} → t ≡ u → Told u time r → Told t time r
 told-same e d = rw e d
 
-pub told-started : (time : ℕ) → Told (goes (started time)) time (record { collector = record { stage = Started; begun = time; last = time }; completed = completed.Nothing })
+pub told-started : (time : ℕ) → Told (goes (started time)) time (record { collector = record { stage = Started; begun = time; last = time }; answer = completed.Nothing })
 unfolding told completes behind stageOf started
 told-started time = record { answer = refl; collector = refl }
 
@@ -107,14 +107,14 @@ unfolding started whole wrong
 second-packet begun time b h e = told-same (joins-packet (started begun) b (lt-ltb b 0x80 h) refl) (told-packet b 0 [] time refl e)
 
 pub second-code : (begun time b : ℕ) → 0x80 ≤ b
-    → Told (joining (started begun) b) time (record { collector = record { stage = Coded b; begun = begun; last = time }; completed = completed.Nothing })
+    → Told (joining (started begun) b) time (record { collector = record { stage = Coded b; begun = begun; last = time }; answer = completed.Nothing })
 unfolding started whole told completes behind stageOf
 second-code begun time b h = told-same (joins-more (started begun) b (le-ltb b 0x80 h)) (record { answer = refl; collector = refl })
 
 -- ---- the promise
 
 pub byte-earlier : (s : Collector) (time b : ℕ) (was : List ℕ) → time < s .last
-    → ByteCollected s time b was (record { collector = s; completed = completed.Refused TimeEarlier }) was
+    → ByteCollected s time b was (record { collector = s; answer = completed.Refused TimeEarlier }) was
 unfolding collecting completes mapped ifGiven answerTo collectorAfter memoryAfter
 byte-earlier s time b was h =
     let e = refuse-yes (numberOf TimeEarlier) (gives (taking (partOf (s .stage) (s .begun) was) time b)) (lt-ltb time (s .last) h) in

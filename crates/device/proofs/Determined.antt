@@ -56,8 +56,8 @@ pub byte-determined : {s : Collector} {time b : ℕ} {was : List ℕ} {r q : Col
     → ByteCollected s time b was q js → (r ≡ q) × (is ≡ js)
 byte-determined {r = r} {q = q} x y =
     let c : r .collector ≡ q .collector = x .collector ∙ sym (y .collector) in
-    let a : r .completed ≡ q .completed = completes-one (r .completed) (q .completed) (x .answer ∙ sym (y .answer)) in
-    let both : Collector → Completed → Collected = λ c a. record { collector = c; completed = a } in
+    let a : r .answer ≡ q .answer = completes-one (r .answer) (q .answer) (x .answer ∙ sym (y .answer)) in
+    let both : Collector → Completed → Collected = λ c a. record { collector = c; answer = a } in
     (ap₂ both c a, x .memory ∙ sym (y .memory))
 
 pub model-new-determined : {r s : Model} → FreshModel r → FreshModel s → r ≡ s

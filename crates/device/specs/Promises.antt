@@ -25,7 +25,7 @@ pub record FreshCollector (r : Collector) : Type 0 where
 
 -- `Collector::byte`, with the lent memory before and after
 pub record ByteCollected (s : Collector) (time b : ℕ) (was : List ℕ) (r : Collected) (is : List ℕ) : Type 0 where
-  pub answer : completes (r .completed) ≡ answerTo s was time b
+  pub answer : completes (r .answer) ≡ answerTo s was time b
   pub collector : r .collector ≡ collectorAfter s was time b
   pub memory : is ≡ memoryAfter s was time b
 

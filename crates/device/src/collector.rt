@@ -45,7 +45,7 @@ pub enum Completed {
 
 pub struct Collected {
     pub collector: Collector,
-    pub completed: Completed,
+    pub answer: Completed,
 }
 
 impl Collector {
@@ -65,7 +65,7 @@ impl Collector {
         if time < self.last {
             return Collected {
                 collector: self,
-                completed: Completed::Refused(Refusal::TimeEarlier),
+                answer: Completed::Refused(Refusal::TimeEarlier),
             };
         }
         let begun = self.begun;
@@ -115,7 +115,7 @@ fn start(time: u64, b: u8) -> Collected
                 begun: time,
                 last: time,
             },
-            completed: Completed::Nothing,
+            answer: Completed::Nothing,
         };
     }
     nothing(time)
@@ -134,7 +134,7 @@ fn second(begun: u64, time: u64, b: u8) -> Collected
             begun,
             last: time,
         },
-        completed: Completed::Nothing,
+        answer: Completed::Nothing,
     }
 }
 
@@ -153,7 +153,7 @@ fn going(code: u8, size: u8, count: u8, sum: u8, begun: u64, time: u64) -> Colle
             begun,
             last: time,
         },
-        completed: Completed::Nothing,
+        answer: Completed::Nothing,
     }
 }
 
@@ -176,7 +176,7 @@ fn packet(code: u8, size: u8, time: u64) -> Collected
             begun: 0,
             last: time,
         },
-        completed: Completed::Packet {
+        answer: Completed::Packet {
             request: Request(code),
             size,
         },
@@ -193,6 +193,6 @@ fn nothing(time: u64) -> Collected
             begun: 0,
             last: time,
         },
-        completed: Completed::Nothing,
+        answer: Completed::Nothing,
     }
 }

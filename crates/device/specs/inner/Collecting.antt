@@ -8,16 +8,16 @@ use Rattle.device.specs.declared.collector.Completed.the-variants as com
 use Rattle.device.specs.declared.collector.Collected.{Collected}
 
 pub record Told (t : Taken) (time : ℕ) (r : Collected) : Type 0 where
-  pub answer : completes (r .completed) ≡ gives (told t)
+  pub answer : completes (r .answer) ≡ gives (told t)
   pub collector : r .collector ≡ behind time t
 
 unfoldable pub goingOn : ℕ → ℕ → ℕ → ℕ → ℕ → ℕ → Collected
 goingOn code size count sum begun time =
-    record { collector = record { stage = Sized code size count sum; begun = begun; last = time }; completed = completed.Nothing }
+    record { collector = record { stage = Sized code size count sum; begun = begun; last = time }; answer = completed.Nothing }
 
 unfoldable pub completing : ℕ → ℕ → ℕ → Collected
 completing code size time =
-    record { collector = record { stage = Empty; begun = 0; last = time }; completed = completed.Packet (record { 0 = code }) size }
+    record { collector = record { stage = Empty; begun = 0; last = time }; answer = completed.Packet (record { 0 = code }) size }
 
 unfoldable pub none : ℕ → Collected
-none time = record { collector = record { stage = Empty; begun = 0; last = time }; completed = completed.Nothing }
+none time = record { collector = record { stage = Empty; begun = 0; last = time }; answer = completed.Nothing }
