@@ -1,4 +1,5 @@
--- DEMAND 3. The theorem is `crash-safe`; `after-every-store` says the same of each single store, `add-is-stores` what adding whole comes to.
+-- DEMAND 3. The theorem is `crash-safe`; `after-every-store` says the same of each single store, `add-is-stores` and
+-- `add-keeps` what adding whole comes to.
 --
 -- What it rests on beside the promises: a store of one byte happens whole or not at all, the memory holds what was stored, and stores
 -- reach the memory in the order of the calls. So the guarantee is for each call of `store`. A promise sees the memory at exit only:
@@ -7,7 +8,7 @@ use Prim.Native.Nat.{ℕ, zero, suc, _+_, _-_, _*_, _≤_, _<_}
 use mathlib.Core.Path.{_≡_, refl, sym, ap, _∙_}
 use mathlib.Core.Bool.{true}
 use mathlib.Core.Logic.{⊎-elim}
-use mathlib.Core.List.{List, [], _∷_}
+use mathlib.Core.List.{List, [], _∷_, _++_}
 use native.Mathlib.Omega.{arith}
 use lib.ListN.{length, List·getD-eq-default}
 use borrow.Author.Tests.{lt-ltb}
@@ -39,9 +40,9 @@ use Rattle.ring.proofs.Answered.{
   reading-none,
   reading-ok,
 }
-use Rattle.ring.proofs.AllRead.{all-turn, all-last}
+use Rattle.ring.proofs.AllRead.{all-turn, all-last, all-more}
 use Rattle.ring.proofs.Determined.{counted-one}
-use Rattle.ring.proofs.Histories.{ring-stores, ring-after, turns-after, all-kept}
+use Rattle.ring.proofs.Histories.{ring-stores, turns-stores, ring-after, turns-after, all-kept}
 
 -- ---- where a history may start
 
@@ -171,3 +172,18 @@ add-is-stores S was rec is js r two byte c d = go (storing S was rec 0) refl
         let may = storing-means S was rec 0 two byte e in
         stored-is S was rec 755 is (may .0) (may .1) (omega arith) c ∙ sym (d .memory ∙ given-yes (λ _. stores S was rec 755) was e)
     go (refuses m) e = stored-none S was rec m 755 is e (omega arith) c ∙ sym (d .memory ∙ given-no (λ _. stores S was rec 755) was e)
+
+-- and so a whole record is the newest turn after `add`
+pub add-keeps : (S : ℕ) (was rec is : List ℕ) (r : Answer) → Start S was → reads rec ≡ true → AddGiven S was rec r is
+    → ReadsAs S is (last (S - 1) (turns S was ++ rec ∷ []))
+add-keeps S was rec is r s e d =
+    let v = s .ring in
+    let may : storing S was rec 0 ≡ gives tt = storing-ok S was rec 0 (ring-ok S was (gives tt) (v .size) (v .head)) e (omega arith) in
+    let made : is ≡ stores S was rec 755 = d .memory ∙ given-yes (λ _. stores S was rec 755) was may in
+    let new : turns S is ≡ last (S - 1) (turns S was ++ rec ∷ []) = ap (turns S) made ∙ turns-stores S was rec 755 v e (omega arith) in
+    let after : Start S is =
+    record {
+      ring = rw made (ring-stores S was rec 755 v e (omega arith));
+      all-read = rw new (all-last (S - 1) (turns S was ++ rec ∷ []) (all-more (turns S was) rec (s .all-read) e));
+    } in
+    rw new at (reads-turns S is after)
