@@ -3,4 +3,5 @@ pub mod CellRule
 pub mod Taking
 pub mod Gathering
 pub mod Counts
+pub mod Rows
 pub mod Determined
