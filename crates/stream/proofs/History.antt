@@ -1,5 +1,6 @@
 -- THE LAW OF CALLS over the promises of the code, with requests told between. `history-heard`: what a caller sees, and where the reader
--- stands, is what the stream says by definition; so `cut-anywhere`: two histories of one stream see the same and end in the same reader.
+-- stands, is what the stream says by definition; `one-reading`: with no request told, that is one reading of all the bytes; `cut-anywhere`:
+-- two histories of one stream see the same and end in the same reader.
 use mathlib.Core.Path.{_≡_, refl, sym, ap, ap₂, subst, _∙_}
 use mathlib.Core.Bool.{Bool, true, false, not, _&&_}
 use mathlib.Core.Option.{Option, none, some}
@@ -15,14 +16,14 @@ use Rattle.paper.specs.Writing.{over as over-row}
 use Rattle.paper.specs.declared.refusal.Answer.{Answer}
 use Rattle.paper.specs.declared.refusal.Answer.the-variants as answer
 use Rattle.paper.proofs.Outcome.{gives-refuses}
-use Rattle.framing.specs.Framing.{more, State, fresh, test}
-use Rattle.framing.specs.Run.{run, skipped}
+use Rattle.framing.specs.Framing.{more, State, fresh, fed, test}
+use Rattle.framing.specs.Run.{Result, run, skipped}
 use Rattle.framing.specs.Calls.{outputs, Stop as Reason, allTaken, endedBy, noRoom, Answer as CallAnswer, call}
 use Rattle.framing.specs.Stream.{Input, byte, told, Heard, step, forgot, Shown, gave, asked, lost, shown, standing, heard, Uses, over as nothing, calls, tells as telling, refuses as refusing}
 use Rattle.framing.proofs.Giving.{flatMap-append}
 use Rattle.framing.proofs.Calls.{call-more, call-single}
 use Rattle.framing.proofs.Stops.{quiet, Ended, call-ended}
-use Rattle.framing.proofs.Stream.{lost-steps, uses-heard}
+use Rattle.framing.proofs.Stream.{lost-steps, shown-steps, heard-bytes, standing-bytes, uses-heard}
 use Rattle.framing.proofs.Windows.{more-few}
 use Rattle.wire.specs.declared.request.Request.{Request}
 use Rattle.wire.specs.Sample.{wordsOf}
@@ -200,6 +201,18 @@ history-heard {s} {z} {is} {xs} u =
       stands = sym (w .stand);
       skip = v .skip ∙ rw (w .hear);
     }
+
+-- with no request told: one reading of all the bytes
+pub one-reading : {s z : Reader} {xs : List Seen} (bs : List ℕ) → History s (map byte bs) xs z
+    → (xs ≡ flatMap seenOf (map gave (outputs giving (run reader (fed (meaning s) bs) .steps)))) × (meaning z ≡ run reader (fed (meaning s) bs) .end)
+unfolding heard standing shown
+one-reading {s} {z} bs g =
+    let v = history-heard g in
+    let r : Result Phase Event = run reader (fed (meaning s) bs) in
+    let n : map byte bs ++ [] ≡ map byte bs = append-nil {A = Input Request} (map byte bs) in
+    let h : heard reader begins (meaning s) (map byte bs) ≡ map step (r .steps) ++ [] = ap (heard reader begins (meaning s)) (sym n) ∙ heard-bytes reader-lawful begins (meaning s) bs [] (waits s) in
+    let e : standing reader begins (meaning s) (map byte bs) ≡ r .end = ap (standing reader begins (meaning s)) (sym n) ∙ standing-bytes reader-lawful begins (meaning s) bs [] (waits s) in
+    (v .seen ∙ ap (flatMap seenOf) (ap (shown giving) h ∙ shown-steps giving (r .steps) [] ∙ append-nil _), v .stands ∙ e)
 
 -- ---- the reader at the end, whole
 
