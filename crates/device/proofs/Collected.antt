@@ -1,24 +1,24 @@
 -- Every request that can be written, fed byte by byte in time to a collector with nothing begun, is collected after its last byte and not before: `request-collected`.
 use Prim.Native.Nat.{ℕ, suc, _+_, _-_, _<_, _≤_}
 use mathlib.Core.Path.{_≡_, refl, sym, ap, _∙_}
-use mathlib.Core.Bool.{Bool, true, false, cond}
+use mathlib.Core.Bool.{Bool, true, false}
 use mathlib.Core.List.{List, [], _∷_, _++_}
 use mathlib.Core.Option.{Option, none, some}
 use native.Mathlib.Omega.{arith}
 use native.Mathlib.Numerals.{add-one}
 use lib.Bits.{bitXor}
-use lib.Dec.{ltb, eqb}
+use lib.Dec.{ltb}
 use lib.ListN.{length, take, drop, set, replicate, length-append, length-set, take-append-drop}
 use lib.Seq.{length-take-le, take-suc-set, drop-set-lt, append-snoc}
 use borrow.Author.Tests.{le-ltb, lt-ltb, ltb-true, ltb-false}
-use Rattle.paper.specs.Outcome.{Outcome, gives, refuses, refuseIf}
+use Rattle.paper.specs.Outcome.{Outcome, gives}
 use Rattle.paper.specs.Refusals.{numberOf}
 use Rattle.paper.specs.Sum.{xorFrom, sumOf}
 use Rattle.paper.specs.Writing.{over}
 use Rattle.paper.specs.declared.refusal.Refusal.the-variants.{CodeNotPermitted}
 use Rattle.paper.proofs.Outcome.{gives-one, refuse-not}
 use Rattle.wire.specs.Request.{startByte, packetTime, withSum, requestOf}
-use Rattle.device.specs.Collector.{Part, started, begin, whole, wrong, Taken, goes, packet, joining, taking, partOf, stageOf, behind, payloadIn, told, answerTo, collectorAfter, memoryAfter}
+use Rattle.device.specs.Collector.{started, whole, wrong, Taken, goes, packet, taking, partOf, stageOf, behind, payloadIn, told}
 use Rattle.device.specs.Feeding.{Fed, onward, feeding}
 use Rattle.device.proofs.Collecting.{
   begin-yes,

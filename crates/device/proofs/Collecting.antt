@@ -1,7 +1,7 @@
 -- How the collector's promise is met, stage by stage: `byte-earlier`, `byte-late`, `byte-first`, `byte-second`, `byte-size`, `byte-payload`, `byte-sum`.
 use Prim.Native.Nat.{ℕ, suc, _+_, _-_, _<_, _≤_}
 use mathlib.Core.Path.{_≡_, refl, sym, ap, _∙_}
-use mathlib.Core.Bool.{Bool, true, false, cond, not, _&&_, _||_, or-true}
+use mathlib.Core.Bool.{Bool, true, false, cond, not, or-true}
 use mathlib.Core.List.{List, [], _∷_, _++_}
 use native.Mathlib.Omega.{arith}
 use native.Mathlib.Numerals.{add-one}
@@ -10,7 +10,7 @@ use lib.Dec.{ltb, eqb}
 use lib.ListN.{length, getD, take, drop, set, length-append, take-append-drop}
 use lib.Seq.{take-take, take-all, length-take-le, set-split, append-snoc}
 use borrow.Author.Tests.{lt-ltb, le-ltb, eq-eqb, ne-eqb, eqb-true, eqb-false}
-use Rattle.paper.specs.Outcome.{Outcome, gives, refuses, refuseIf, ifGiven, mapped}
+use Rattle.paper.specs.Outcome.{gives, refuseIf, ifGiven, mapped}
 use Rattle.paper.specs.Refusals.{numberOf}
 use Rattle.paper.specs.Writing.{over}
 use Rattle.paper.specs.declared.refusal.Refusal.the-variants.{TimeEarlier}
@@ -168,6 +168,10 @@ size-memory : (begun code b : ℕ) (was : List ℕ) → was ≡ over was (payloa
 unfolding payloadIn over sized
 size-memory begun code b was = refl
 
+-- the payload so far with one byte more
+one-more : (count b : ℕ) (was : List ℕ) → count ≤ length was → length (take count was ++ b ∷ []) ≡ count + 1
+one-more count b was h = length-append (take count was) (b ∷ []) ∙ ap (λ (k : ℕ). k + 1) (length-take-le count was h)
+
 -- the payload
 module _ (code size count sum begun b : ℕ) (was : List ℕ) where
   pub filled : Part
@@ -178,14 +182,14 @@ module _ (code size count sum begun b : ℕ) (was : List ℕ) where
     unfolding partOf whole filled
     payload-joins =
         let t : take count (take size was) ≡ take count was = take-take count size was (omega arith) in
-        let n : length (take count was ++ b ∷ []) ≡ count + 1 = simp length-append (ap (λ (k : ℕ). k + 1) (length-take-le count was (omega arith))) in
+        let n : length (take count was ++ b ∷ []) ≡ count + 1 = one-more count b was (omega arith) in
         let w : eqb (length (take count was ++ b ∷ [])) (size + 1) ≡ false = ne-eqb (length (take count was ++ b ∷ [])) (size + 1) (λ (z : length (take count was ++ b ∷ []) ≡ size + 1). omega arith) in
         joins-more (partOf (Sized code size count sum) begun was) b (rw t w) ∙ rw t
 
     pub payload-behind : (time : ℕ) → behind time (goes filled) ≡ record { stage = Sized code size (count + 1) (bitXor sum b); begun = begun; last = time }
     unfolding behind stageOf filled
     payload-behind time =
-        let n : length (take count was ++ b ∷ []) ≡ count + 1 = simp length-append (ap (λ (k : ℕ). k + 1) (length-take-le count was (omega arith))) in
+        let n : length (take count was ++ b ∷ []) ≡ count + 1 = one-more count b was (omega arith) in
         let held : ℕ → Collector = λ k. record { stage = Sized code size k (bitXor sum b); begun = begun; last = time } in
         ap held n
 
@@ -196,7 +200,7 @@ module _ (code size count sum begun b : ℕ) (was : List ℕ) where
     pub payload-memory : set was count b ≡ over was (payloadIn (goes filled))
     unfolding payloadIn over filled
     payload-memory =
-        let n : length (take count was ++ b ∷ []) ≡ suc count = simp length-append (ap (λ (k : ℕ). k + 1) (length-take-le count was (omega arith)) ∙ add-one count) in
+        let n : length (take count was ++ b ∷ []) ≡ suc count = one-more count b was (omega arith) ∙ add-one count in
         rw n (set-split was count b (omega arith) ∙ sym (append-snoc (take count was) b (drop (suc count) was)))
 
 -- the checksum
@@ -207,8 +211,7 @@ module _ (code size count sum begun b : ℕ) (was : List ℕ) (h : size ≤ coun
   last-whole : whole (partOf (Sized code size count sum) begun was .bytes ++ b ∷ []) ≡ true
   unfolding partOf whole
   last-whole =
-      let n : length (take size was ++ b ∷ []) ≡ size + 1 = simp length-append (ap (λ (k : ℕ). k + 1) (length-take-le size was l)) in
-      rw all-there (eq-eqb (length (take size was ++ b ∷ [])) (size + 1) n)
+      rw all-there (eq-eqb (length (take size was ++ b ∷ [])) (size + 1) (one-more size b was l))
 
   last-wrong : wrong (partOf (Sized code size count sum) begun was) b ≡ not (eqb b sum)
   unfolding partOf wrong

@@ -4,10 +4,10 @@ use mathlib.Core.Path.{_≡_, refl, sym, ap, _∙_}
 use mathlib.Core.Bool.{Bool, true, false, cond, not}
 use mathlib.Core.List.{List, [], _∷_, _++_, append-nil}
 use native.Mathlib.Omega.{arith}
-use lib.Dec.{ltb, eqb}
-use lib.ListN.{length, drop, drop-of-length-le}
+use lib.Dec.{eqb}
+use lib.ListN.{length, drop-of-length-le}
 use borrow.Author.Tests.{lt-ltb, le-ltb}
-use Rattle.paper.specs.Outcome.{Outcome, gives, refuses, refuseIf, ifGiven, mapped}
+use Rattle.paper.specs.Outcome.{Outcome, gives, refuses, ifGiven, mapped}
 use Rattle.paper.specs.Refusals.{numberOf, written}
 use Rattle.paper.specs.Words.{bytesOf}
 use Rattle.paper.specs.Writing.{Writes, over, fitting}
@@ -16,9 +16,9 @@ use Rattle.paper.specs.declared.refusal.Refusal.the-variants.{NotAReply, NoSamp
 use Rattle.paper.specs.declared.refusal.Written.{Written}
 use Rattle.paper.specs.declared.refusal.Written.the-variants as writing
 use Rattle.paper.proofs.Outcome.{gives-refuses, refuse-yes, refuse-no}
-use Rattle.paper.proofs.Writing.{writes-all, writes-same, writes-no, written-over}
+use Rattle.paper.proofs.Writing.{writes-all, writes-same, written-over}
 use Rattle.wire.specs.Request.{kindOf}
-use Rattle.wire.specs.Reply.{errorStatus, bytesOfInfo, bytesOfHealth}
+use Rattle.wire.specs.Reply.{errorStatus, bytesOfHealth}
 use Rattle.wire.specs.Sample.{bytesOfSample}
 use Rattle.wire.proofs.Replies.{health-fit}
 use Rattle.wire.specs.declared.request.Request.{Request}
@@ -31,7 +31,6 @@ use Rattle.device.specs.Promises.{Asking, InAnother, HealthSetting}
 use Rattle.device.specs.declared.model.State.{State}
 use Rattle.device.specs.declared.model.State.the-variants.{Idle, Scanning, ForceScanning, ProtectionStop}
 use Rattle.device.specs.declared.model.Model.{Model}
-use Rattle.device.specs.declared.model.Asked.{Asked}
 use Rattle.device.specs.declared.model.HealthSet.the-variants as healthSet
 
 -- no bytes are written

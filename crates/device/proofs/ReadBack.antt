@@ -1,20 +1,18 @@
 -- What the model sends reads back: its descriptors are the expected ones, and its info, health and samples are what the bench gave.
 -- `scan-read`, `info-read`, `health-read` over the promise of a request, `sample-read` over that of a sample, `descriptors-read` of the three descriptors.
-use Prim.Native.Nat.{ℕ, _+_, _<_, _≤_}
+use Prim.Native.Nat.{ℕ, _+_, _<_}
 use mathlib.Core.Path.{_≡_, refl, sym, ap, _∙_}
-use mathlib.Core.Bool.{Bool, true, false, not}
-use mathlib.Core.List.{List, [], _∷_, _++_}
-use native.Mathlib.Omega.{arith}
+use mathlib.Core.Bool.{Bool, true, false, cond, not}
+use mathlib.Core.List.{List, [], _++_}
 use lib.Dec.{ltb}
 use lib.ListN.{length, take, drop}
 use lib.Seq.{take-at, drop-at}
 use borrow.Author.Tests.{ltb-true, ltb-false}
 use Rattle.paper.specs.Outcome.{Outcome, gives, refuses, refuseIf, ifGiven, mapped}
 use Rattle.paper.specs.Refusals.{numberOf, written}
-use Rattle.paper.specs.Words.{valueOf, bytesOf}
+use Rattle.paper.specs.Words.{valueOf}
 use Rattle.paper.specs.Writing.{Writes, over, fitting}
 use Rattle.paper.specs.declared.refusal.Refusal.the-variants.{NoSampleSent}
-use Rattle.paper.specs.declared.refusal.Written.{Written}
 use Rattle.paper.specs.declared.refusal.Written.the-variants as writing
 use Rattle.paper.proofs.Outcome.{gives-one, gives-refuses, refuse-not}
 use Rattle.paper.proofs.Writing.{fitting-yes, fitting-no}
@@ -26,13 +24,10 @@ use Rattle.wire.proofs.WriteThenRead.{info-back, health-back, sample-back}
 use Rattle.wire.specs.declared.request.Request.{Request}
 use Rattle.wire.specs.declared.request.Kind.{Kind}
 use Rattle.wire.specs.declared.request.Kind.the-variants.{Scan, ForceScan, GetInfo, GetHealth}
-use Rattle.wire.specs.declared.descriptor.Descriptor.{Descriptor}
 use Rattle.wire.specs.declared.reply.Info.{Info}
-use Rattle.wire.specs.declared.reply.Health.{Health}
 use Rattle.wire.specs.declared.sample.Sample.{Sample}
 use Rattle.device.specs.Model.{protected, healthNow, behindDescriptor, sent, sendsSamples, sampleSent}
 use Rattle.device.specs.Promises.{Asking}
-use Rattle.device.proofs.Models.{health-sent}
 use Rattle.device.specs.declared.model.Model.{Model}
 use Rattle.device.specs.declared.model.Asked.{Asked}
 
@@ -79,13 +74,10 @@ module _ (m : Model) (info : Info) (request : Request) (was is : List ℕ) (r : 
   front-of kind k = written-front (sent m info kind) was is n (rw (k, done) at (asking .answer))
 
   -- SCAN and FORCE_SCAN: the expected descriptor, or nothing in protection stop
-  pub scan-read : kindOf (request .0) ≡ Scan → take n is ≡ protected (m .state) [] scanDescriptor
+  pub scan-read : (forced : Bool) → kindOf (request .0) ≡ cond forced ForceScan Scan → take n is ≡ protected (m .state) [] scanDescriptor
   unfolding sent
-  scan-read k = let f = front-of Scan k in f .front ∙ sym (gives-one (f .given))
-
-  pub force-scan-read : kindOf (request .0) ≡ ForceScan → take n is ≡ protected (m .state) [] scanDescriptor
-  unfolding sent
-  force-scan-read k = let f = front-of ForceScan k in f .front ∙ sym (gives-one (f .given))
+  scan-read true k = let f = front-of ForceScan k in f .front ∙ sym (gives-one (f .given))
+  scan-read false k = let f = front-of Scan k in f .front ∙ sym (gives-one (f .given))
 
   -- GET_INFO: the expected descriptor, and then bytes that read to the info that the bench gave
   pub info-read : kindOf (request .0) ≡ GetInfo → length (info .serial) ≡ 16 → (take 7 (take n is) ≡ infoDescriptor) × (infoOf (drop 7 (take n is)) ≡ gives info)

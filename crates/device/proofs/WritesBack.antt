@@ -1,16 +1,16 @@
 -- What is collected writes back to the very bytes that were fed last: `collected-writes-back`.
 use Prim.Native.Nat.{ℕ, zero, suc, _+_, _-_, _<_, _≤_}
-use mathlib.Core.Path.{_≡_, refl, sym, ap, ap₂, _∙_}
-use mathlib.Core.Bool.{Bool, true, false, cond, not, _&&_, _||_}
+use mathlib.Core.Path.{_≡_, refl, sym, ap, _∙_}
+use mathlib.Core.Bool.{Bool, true, false, cond, _||_}
 use mathlib.Core.List.{List, [], _∷_, _++_, append-nil, append-assoc}
-use mathlib.Core.Option.{Option, none, some}
+use mathlib.Core.Option.{some}
 use native.Mathlib.Omega.{arith}
 use lib.Bits.{bitXor}
 use lib.Dec.{ltb, eqb}
-use lib.ListN.{length, getD, take, drop, length-append}
+use lib.ListN.{length, take, drop, length-append}
 use lib.Seq.{take-take, take-append-seam, take-at, append-snoc}
-use borrow.Author.Tests.{le-ltb, lt-ltb, ne-eqb, ltb-true, ltb-false, eqb-true, eqb-false}
-use Rattle.paper.specs.Outcome.{Outcome, gives}
+use borrow.Author.Tests.{lt-ltb, ne-eqb, ltb-true, ltb-false, eqb-true, eqb-false}
+use Rattle.paper.specs.Outcome.{gives}
 use Rattle.paper.specs.Sum.{xorFrom, sumOf}
 use Rattle.paper.specs.Words.{Each, Bytes}
 use Rattle.paper.specs.Writing.{over}
@@ -41,9 +41,8 @@ use Rattle.device.specs.Collector.{
   collectorAfter,
   memoryAfter,
 }
-use Rattle.device.specs.Feeding.{Fed, onward, feeding}
+use Rattle.device.specs.Feeding.{onward, feeding}
 use Rattle.device.proofs.Collecting.{joins-more, joins-wrong, joins-packet, taken-three}
-use Rattle.device.specs.declared.collector.Stage.{Stage}
 use Rattle.device.specs.declared.collector.Stage.the-variants.{Empty}
 use Rattle.device.specs.declared.collector.Collector.{Collector}
 

@@ -1,7 +1,6 @@
 -- `device::collector::going` meets its promise.
 use mathlib.Core.Path.{refl}
 use Rattle.device.specs.inner.Collecting.{goingOn}
-use borrow.Author.Needs.{needs}
 use Rattle.device.proofs.collector.going.Statement.{statement}
 use Rattle.device.proofs.collector.going.Tie as tie
 

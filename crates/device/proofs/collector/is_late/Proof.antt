@@ -4,7 +4,6 @@ use native.Mathlib.Omega.{arith}
 use mathlib.Core.Path.{refl, sym}
 use borrow.Author.Tests.{le-ltb}
 use Rattle.wire.specs.Request.{packetTime}
-use borrow.Author.Needs.{needs}
 use Rattle.device.proofs.collector.is_late.Statement.{statement}
 use Rattle.device.proofs.collector.is_late.Tie as tie
 

@@ -1,7 +1,6 @@
 -- `device::collector::nothing` meets its promise.
 use mathlib.Core.Path.{refl}
 use Rattle.device.specs.inner.Collecting.{none}
-use borrow.Author.Needs.{needs}
 use Rattle.device.proofs.collector.nothing.Statement.{statement}
 use Rattle.device.proofs.collector.nothing.Tie as tie
 

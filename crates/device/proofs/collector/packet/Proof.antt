@@ -1,7 +1,6 @@
 -- `device::collector::packet` meets its promise.
 use mathlib.Core.Path.{refl}
 use Rattle.device.specs.inner.Collecting.{completing}
-use borrow.Author.Needs.{needs}
 use Rattle.device.proofs.collector.packet.Statement.{statement}
 use Rattle.device.proofs.collector.packet.Tie as tie
 

@@ -1,7 +1,6 @@
 -- `device::model::go` meets its promise.
 use mathlib.Core.Path.{refl}
 use Rattle.device.specs.Model.{inState}
-use borrow.Author.Needs.{needs}
 use Rattle.device.proofs.model.go.Statement.{statement}
 use Rattle.device.proofs.model.go.Tie as tie
 

@@ -1,5 +1,4 @@
 -- `device::model::send` meets its promise.
-use mathlib.Core.Path.{refl}
 use Rattle.device.specs.Model.{sent}
 use Rattle.paper.proofs.Writing.{writes-refused}
 use Rattle.device.proofs.Models.{wrote-nothing, sent-as}

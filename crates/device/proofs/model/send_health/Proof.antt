@@ -1,5 +1,5 @@
 -- `device::model::send_health` meets its promise.
-use mathlib.Core.Path.{refl, ap, _∙_}
+use mathlib.Core.Path.{ap}
 use Rattle.wire.specs.Descriptor.{healthDescriptor}
 use Rattle.wire.specs.Reply.{bytesOfHealth}
 use Rattle.paper.proofs.Writing.{writes-same}

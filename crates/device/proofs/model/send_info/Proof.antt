@@ -1,5 +1,5 @@
 -- `device::model::send_info` meets its promise.
-use mathlib.Core.Path.{_≡_, refl, _∙_}
+use mathlib.Core.Path.{_≡_, refl}
 use lib.ListN.{length}
 use Rattle.wire.specs.Descriptor.{infoDescriptor}
 use Rattle.wire.specs.Reply.{bytesOfInfo}

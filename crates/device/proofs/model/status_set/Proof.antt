@@ -1,5 +1,4 @@
 -- `device::model::status_set` meets its promise.
-use borrow.Author.Needs.{needs}
 use Rattle.device.proofs.model.status_set.Statement.{statement}
 use Rattle.device.proofs.model.status_set.Tie as tie
 

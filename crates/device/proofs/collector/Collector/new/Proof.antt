@@ -1,6 +1,5 @@
 -- `device::collector::Collector::new` meets its promise.
 use mathlib.Core.Path.{refl}
-use borrow.Author.Needs.{needs}
 use Rattle.device.proofs.collector.Collector.new.Statement.{statement}
 use Rattle.device.proofs.collector.Collector.new.Tie as tie
 

@@ -1,7 +1,6 @@
 -- `device::model::Model::new` meets its promise.
 use mathlib.Core.Path.{refl}
 use Rattle.device.specs.Model.{fresh}
-use borrow.Author.Needs.{needs}
 use Rattle.device.proofs.model.Model.new.Statement.{statement}
 use Rattle.device.proofs.model.Model.new.Tie as tie
 

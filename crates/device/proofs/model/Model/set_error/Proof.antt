@@ -1,6 +1,5 @@
 -- `device::model::Model::set_error` meets its promise.
 use mathlib.Core.Path.{refl}
-use borrow.Author.Needs.{needs}
 use Rattle.device.proofs.model.Model.set_error.Statement.{statement}
 use Rattle.device.proofs.model.Model.set_error.Tie as tie
 

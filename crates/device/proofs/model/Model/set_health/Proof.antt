@@ -1,6 +1,5 @@
 -- `device::model::Model::set_health` meets its promise.
 use Rattle.device.proofs.Models.{setting-over, setting-fit}
-use borrow.Author.Needs.{needs}
 use Rattle.device.proofs.model.Model.set_health.Statement.{statement}
 use Rattle.device.proofs.model.Model.set_health.Tie as tie
 

@@ -1,6 +1,5 @@
 -- `device::model::Model::set_motor` meets its promise.
 use mathlib.Core.Path.{refl}
-use borrow.Author.Needs.{needs}
 use Rattle.device.proofs.model.Model.set_motor.Statement.{statement}
 use Rattle.device.proofs.model.Model.set_motor.Tie as tie
 
