@@ -4,4 +4,6 @@ pub mod Taking
 pub mod Gathering
 pub mod Counts
 pub mod Rows
+pub mod Sums
+pub mod Portions
 pub mod Determined

@@ -3,3 +3,4 @@ pub mod Turns
 pub mod Gather
 pub mod Promises
 pub mod inner
+pub mod Calls
