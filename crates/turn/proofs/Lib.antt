@@ -6,4 +6,5 @@ pub mod Counts
 pub mod Rows
 pub mod Sums
 pub mod Portions
+pub mod Nearest
 pub mod Determined
