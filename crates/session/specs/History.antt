@@ -48,6 +48,7 @@ KeepsReply [] = Unit {0}
 KeepsReply (sent time k ∷ acts) = (awaitedAfter k ≡ Reply → ReplyEndsFirst acts) × KeepsReply acts
 KeepsReply (told ∷ acts) = KeepsReply acts
 
+-- the rules, over the list alone
 pub record KeepsRules (acts : List Act) : Type 0 where
   pub six : Each OfTheSix acts
   pub waits : KeepsWaits acts

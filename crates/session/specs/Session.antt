@@ -32,7 +32,7 @@ ofTheSix Other = false
 unfoldable pub permitted : Kind → ℕ → Bool
 permitted k n = ofTheSix k && eqb n 0
 
--- after STOP the next request is sent 1 ms later or more, after RESET 2 ms or more
+-- after STOP, and after RESET, the next request is sent so many milliseconds later or more
 unfoldable pub waitAfter : Kind → ℕ
 waitAfter Stop = stopWait
 waitAfter Reset = resetWait
