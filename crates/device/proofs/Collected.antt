@@ -19,7 +19,7 @@ use Rattle.paper.specs.declared.refusal.Refusal.the-variants.{CodeNotPermitted}
 use Rattle.paper.proofs.Outcome.{gives-one, refuse-not}
 use Rattle.wire.specs.Request.{startByte, packetTime, withSum, requestOf}
 use Rattle.device.specs.Collector.{started, whole, wrong, Taken, goes, packet, taking, partOf, stageOf, behind, payloadIn, told}
-use Rattle.device.specs.Feeding.{Fed, onward, feeding}
+use Rattle.device.specs.Feeding.{Fed, onward, feeding, collectedWhole}
 use Rattle.device.proofs.Collecting.{
   begin-yes,
   taken-none,
@@ -105,14 +105,6 @@ module _ (code n begun : ℕ) where
       ∙ ap (onward (gives none))
       (rest-fed qs (set mem k q) (k + 1) (bitXor acc q) (t 0) (λ j. t (suc j)) (omega arith) (simp length-set l) (up 0) (λ j. up (suc j)) (λ j. soon (suc j)))
       ∙ more-fed q qs mem k t h l
-
--- what feeding a whole request leads to
-unfoldable pub collectedWhole : ℕ → List ℕ → List ℕ → List ℕ → (ℕ → ℕ) → Fed
-collectedWhole code payload bytes mem t = record {
-  answers = replicate (length bytes - 1) (gives none) ++ gives (some (code, length payload)) ∷ [];
-  collector = record { stage = Empty; begun = 0; last = t (length bytes - 1) };
-  memory = over mem payload;
-}
 
 -- what a request that can be written looks like
 nil-of : (xs : List ℕ) → length xs ≤ 0 → xs ≡ []

@@ -41,7 +41,7 @@ use Rattle.device.specs.Collector.{
   collectorAfter,
   memoryAfter,
 }
-use Rattle.device.specs.Feeding.{onward, feeding}
+use Rattle.device.specs.Feeding.{onward, feeding, EndsWith}
 use Rattle.device.proofs.Collecting.{joins-more, joins-wrong, joins-packet, taken-three}
 use Rattle.device.specs.declared.collector.Stage.the-variants.{Empty}
 use Rattle.device.specs.declared.collector.Collector.{Collector}
@@ -59,13 +59,6 @@ record Follows (fed : List ℕ) (p : Part) : Type 0 where
   right : p .sum ≡ sumOf (p .bytes)
   before : List ℕ
   split : fed ≡ before ++ p .bytes
-
--- The bytes fed end with those of a request.
-pub record EndsWith (fed : List ℕ) (code : ℕ) (payload : List ℕ) : Type 0 where
-  pub before : List ℕ
-  pub request : List ℕ
-  pub split : fed ≡ before ++ request
-  pub writes : requestOf code payload ≡ gives request
 
 Good : List ℕ → Taken → Type 0
 Good fed (goes p) = Follows fed p
