@@ -2,7 +2,6 @@
 -- handed over first; `call-decided`: bytes that give nothing are passed as far as they decide; `call-makes` and `call-stops`: the byte
 -- that makes something due is taken or not; `call-gives` and `call-ends`: the first thing due is given.
 use mathlib.Core.Path.{_≡_, refl, sym, ap, ap₂, _∙_}
-use mathlib.Core.Logic.{_↔_}
 use mathlib.Core.Bool.{Bool, true, false}
 use mathlib.Core.List.{List, [], _∷_, _++_, flatMap, append-nil, append-assoc, append-eq-nil-iff}
 use Prim.Native.Nat.{ℕ, suc, _+_, _-_, _≤_, _<_}

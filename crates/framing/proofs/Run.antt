@@ -4,7 +4,7 @@ use mathlib.Core.Path.{_≡_, refl, sym, ap, _∙_}
 use mathlib.Core.List.{List, [], _++_, append-nil, append-assoc}
 use Prim.Native.Nat.{ℕ, zero, suc, _≤_, _<_}
 use native.Mathlib.Omega.{arith}
-use lib.ListN.{length, drop, length-drop}
+use lib.ListN.{length, length-drop}
 use lib.Seq.{drop-append-le}
 use Rattle.framing.specs.Framing.{Step, size, Try, more, found, Framing, Lawful, State, fed, test, passed}
 use Rattle.framing.specs.Run.{stopped, stepped, joined, act, runN, run}

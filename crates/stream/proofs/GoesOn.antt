@@ -1,5 +1,5 @@
 -- No caller is stuck: `call-goes-on`: with a byte at hand and room for three words a call takes a byte; `goes-on`: so every stream can be used up.
-use mathlib.Core.Path.{_≡_, refl}
+use mathlib.Core.Path.{refl}
 use mathlib.Core.List.{List, [], _∷_, _++_, map, append-nil}
 use Prim.Native.Nat.{ℕ, zero, suc, _+_, _≤_}
 use native.Mathlib.Omega.{arith}

@@ -2,13 +2,12 @@
 -- stands, is what the stream says by definition; `one-reading`: with no request told, that is one reading of all the bytes; `cut-anywhere`:
 -- two histories of one stream see the same and end in the same reader.
 use mathlib.Core.Path.{_≡_, refl, sym, ap, ap₂, subst, _∙_}
-use mathlib.Core.Bool.{Bool, true, false, not, _&&_}
-use mathlib.Core.Option.{Option, none, some}
-use mathlib.Core.List.{List, [], _∷_, _++_, map, map-append, flatMap, append-nil, append-assoc}
-use Prim.Native.Nat.{ℕ, _+_, _-_, _≤_, _<_, min}
+use mathlib.Core.Bool.{true}
+use mathlib.Core.List.{List, [], _∷_, _++_, map, map-append, flatMap, append-nil}
+use Prim.Native.Nat.{ℕ, _+_, _-_, _<_, min}
 use native.Mathlib.Nat.{add-zero}
 use native.Mathlib.Omega.{arith}
-use lib.ListN.{length, take, drop, replicate, length-append}
+use lib.ListN.{length, take, drop, replicate}
 use lib.Seq.{take-at}
 use Rattle.paper.specs.Outcome.{Outcome, gives, refuses, ifGiven, mapped}
 use Rattle.paper.specs.Refusals.{answered}
@@ -16,9 +15,9 @@ use Rattle.paper.specs.Writing.{over as over-row}
 use Rattle.paper.specs.declared.refusal.Answer.{Answer}
 use Rattle.paper.specs.declared.refusal.Answer.the-variants as answer
 use Rattle.paper.proofs.Outcome.{gives-refuses}
-use Rattle.framing.specs.Framing.{more, State, fresh, fed, test}
+use Rattle.framing.specs.Framing.{State, fresh, fed}
 use Rattle.framing.specs.Run.{Result, run, skipped}
-use Rattle.framing.specs.Calls.{outputs, Stop as Reason, allTaken, endedBy, noRoom, Answer as CallAnswer, call}
+use Rattle.framing.specs.Calls.{outputs, Stop as Reason, allTaken, endedBy, noRoom, Answer as CallAnswer}
 use Rattle.framing.specs.Stream.{Input, byte, told, Heard, step, forgot, Shown, gave, asked, lost, shown, standing, heard, Uses, over as nothing, calls, tells as telling, refuses as refusing}
 use Rattle.framing.proofs.Giving.{flatMap-append}
 use Rattle.framing.proofs.Calls.{call-more, call-single}
@@ -29,7 +28,6 @@ use Rattle.wire.specs.declared.request.Request.{Request}
 use Rattle.wire.specs.Sample.{wordsOf}
 use Rattle.stream.specs.declared.Phase.{Phase}
 use Rattle.stream.specs.declared.Phase.the-variants.{Idle}
-use Rattle.stream.specs.declared.Stop.{Stop}
 use Rattle.stream.specs.declared.Reader.{Reader}
 use Rattle.stream.specs.declared.Reading.{Reading}
 use Rattle.stream.specs.declared.Told.{Told}
@@ -38,7 +36,7 @@ use Rattle.stream.specs.State.{heldOf, meaning, twenty, capped, written,
 use Rattle.stream.specs.Stops.{replyFor, stopOf}
 use Rattle.stream.specs.Telling.{opens, begins}
 use Rattle.stream.specs.Promises.{called, rowGiven, Reads, Tells}
-use Rattle.stream.specs.History.{Seen, word, notice, taken, noticeBy, seenBy, toldBy, seenOf, History, over, reads, tells, Plain}
+use Rattle.stream.specs.History.{Seen, word, taken, noticeBy, seenBy, toldBy, seenOf, History, over, reads, tells, Plain}
 use Rattle.stream.proofs.Table.{width-pos, reader-lawful, by-window, one-thing}
 use Rattle.stream.proofs.Determined.{stop-one}
 use Rattle.stream.proofs.inner.Hold.{capped-capped}

@@ -1,6 +1,6 @@
 -- Each reading in the paper's own words is the run of its phase: `idle-run`, `found-run` and `unfound-run` (the search), `reply-run`,
 -- `short-run`, and `scan-run`.
-use mathlib.Core.Path.{_≡_, refl, sym, ap, _∙_}
+use mathlib.Core.Path.{_≡_, refl, ap, _∙_}
 use mathlib.Core.Bool.{Bool, true, false, cond}
 use mathlib.Core.Option.{Option, none, some, Option·map}
 use mathlib.Core.List.{List, [], _∷_, _++_, map, flatMap}
@@ -12,7 +12,7 @@ use lib.ListN.{length, take, drop, replicate, length-take}
 use Rattle.paper.specs.Outcome.{Outcome, gives, refuses, ifGiven}
 use Rattle.framing.specs.Framing.{Step, skip, frame, size, State, fresh, after, passed}
 use Rattle.framing.specs.Run.{Result, stopped, stepped, joined, run, events, skipped}
-use Rattle.framing.specs.Stages.{Verdict, fails, passes, spoiled, stepOf}
+use Rattle.framing.specs.Stages.{fails, passes, stepOf}
 use Rattle.framing.specs.Calls.{outputs}
 use Rattle.framing.proofs.Windows.{run-few, run-full}
 use Rattle.wire.specs.declared.sample.Sample.{Sample}

@@ -1,35 +1,34 @@
 -- Stops 2, 3 and 4 come right after what they name: `stop-descriptor`: the first place of the descriptor and its seven bytes; `stop-reply`
 -- and `stop-bad-health`: the bytes of the reply.
 use mathlib.Core.Path.{_≡_, refl, sym, ap, subst, _∙_}
-use mathlib.Core.Bool.{Bool, true, false, cond}
-use mathlib.Core.Option.{Option, none, some, Option·map}
+use mathlib.Core.Bool.{Bool, true, false}
+use mathlib.Core.Option.{some}
 use mathlib.Core.List.{List, [], _∷_, _++_, flatMap}
-use Prim.Native.Nat.{ℕ, zero, suc, _+_, _-_, _≤_, _<_}
+use Prim.Native.Nat.{ℕ, zero, suc, _+_, _≤_, _<_}
 use native.Mathlib.Nat.{lt-of-not-le}
 use native.Mathlib.Decide.{decLe}
 use native.Mathlib.Omega.{arith}
 use lib.ListN.{length, take, drop, length-drop}
 use lib.Seq.{sets, length-sets}
-use Rattle.paper.specs.Outcome.{Outcome, gives, refuses, ifGiven}
-use Rattle.framing.specs.Framing.{Step, frame, reject, size, State, fresh, after}
+use Rattle.paper.specs.Outcome.{Outcome, gives, refuses}
+use Rattle.framing.specs.Framing.{frame, reject, size, fresh, after}
 use Rattle.framing.specs.Run.{events, skipped}
-use Rattle.framing.specs.Stages.{Verdict, fails, passes, spoiled, stepOf}
-use Rattle.framing.specs.Calls.{outputs, endedBy}
+use Rattle.framing.specs.Stages.{fails, passes, spoiled, stepOf}
+use Rattle.framing.specs.Calls.{outputs}
 use Rattle.wire.specs.declared.sample.Sample.{Sample}
 use Rattle.wire.specs.Sample.{sampleOf, wordsOf}
-use Rattle.wire.specs.Descriptor.{infoDescriptor, healthDescriptor, scanDescriptor}
 use Rattle.stream.specs.declared.Phase.{Phase}
 use Rattle.stream.specs.declared.Phase.the-variants.{Idle, SeekInfo, SeekHealth, SeekScan, InfoReply, HealthReply, Scanning}
 use Rattle.stream.specs.declared.Stop.{Stop}
 use Rattle.stream.specs.declared.Stop.the-variants.{AllTaken, NoRoom, Descriptor, Reply, BadHealth}
 use Rattle.stream.specs.declared.Reader.{Reader}
 use Rattle.stream.specs.declared.Reading.{Reading}
-use Rattle.stream.specs.Table.{Event, descriptor, reply, badHealth, samples, Thing, headed, replied, unread, readSample, same, seeking, width, says, follows, reader, giving, thingsOf, wordsFor, endsCall, rowOf}
+use Rattle.stream.specs.Table.{descriptor, reply, badHealth, headed, replied, unread, same, seeking, width, says, follows, thingsOf, wordsFor, endsCall, rowOf}
 use Rattle.stream.specs.State.{heldOf}
 use Rattle.stream.specs.Stops.{replyFor, stopOf}
 use Rattle.stream.specs.Readings.{firstPlace}
 use Rattle.stream.specs.Promises.{called, Reads}
-use Rattle.stream.specs.inner.Account.{put, Account, account, comesTo}
+use Rattle.stream.specs.inner.Account.{Account, account, comesTo}
 use Rattle.stream.specs.inner.Seek.{Seeks}
 use Rattle.stream.specs.inner.Reply.{bad, Awaits}
 use Rattle.stream.proofs.Determined.{stop-one}

@@ -3,19 +3,18 @@
 use mathlib.Core.Path.{_≡_, refl, sym, ap, _∙_}
 use mathlib.Core.Bool.{Bool, true, false, cond}
 use mathlib.Core.List.{List, [], _∷_, _++_, flatMap}
-use Prim.Native.Nat.{ℕ, suc, _+_, _-_, _≤_, _<_}
+use Prim.Native.Nat.{ℕ, suc, _+_, _≤_, _<_}
 use native.Mathlib.Nat.{lt-of-not-le}
 use native.Mathlib.Decide.{decLe}
 use native.Mathlib.Omega.{arith}
-use lib.ListN.{length, take, drop, length-append}
+use lib.ListN.{length, drop, length-append}
 use lib.Seq.{take-all}
 use Rattle.paper.specs.Outcome.{Outcome, gives, refuses, ifGiven}
 use Rattle.framing.specs.Framing.{more, State, fed, test}
 use Rattle.framing.specs.Run.{run, stopped, stepped, events}
 use Rattle.framing.specs.Stages.{Verdict, fails, passes, spoiled, stepOf}
-use Rattle.framing.specs.Calls.{wordsOf as wordsIn, outputs, Stop as Reason, allTaken, endedBy, noRoom, Answer, call}
-use Rattle.framing.proofs.Calls.{call-more, call-single}
-use Rattle.framing.proofs.Stops.{Short, Ended, Blocked, byDue, byNext, call-all, call-blocked, call-ended}
+use Rattle.framing.specs.Calls.{outputs, Stop as Reason, allTaken, endedBy, noRoom, Answer}
+use Rattle.framing.proofs.Stops.{Ended, Blocked, byDue, byNext, call-all, call-blocked, call-ended}
 use Rattle.framing.proofs.Windows.{more-few, run-few, run-exact}
 use Rattle.wire.specs.declared.sample.Sample.{Sample}
 use Rattle.wire.specs.Sample.{sampleOf}
@@ -25,13 +24,13 @@ use Rattle.stream.specs.Stops.{stopOf}
 use Rattle.stream.specs.declared.Phase.{Phase}
 use Rattle.stream.specs.declared.Phase.the-variants.{Idle, SeekInfo, SeekHealth, SeekScan, InfoReply, HealthReply, Scanning}
 use Rattle.stream.specs.declared.Stop.{Stop}
-use Rattle.stream.specs.declared.Stop.the-variants.{AllTaken, NoRoom, Descriptor, Reply, BadHealth}
+use Rattle.stream.specs.declared.Stop.the-variants.{AllTaken, NoRoom}
 use Rattle.stream.specs.declared.Reader.{Reader}
 use Rattle.stream.specs.declared.Reading.{Reading}
 use Rattle.stream.specs.Table.{Event, descriptor, reply, badHealth, samples, Thing, headed, replied, unread, point, readHealth, readSample, same, seeking, width, says, reader, giving, thingsOf, wordsFor, endsCall}
-use Rattle.stream.specs.State.{heldOf, meaning, written}
+use Rattle.stream.specs.State.{meaning}
 use Rattle.stream.specs.Promises.{called, rowGiven, Reads}
-use Rattle.stream.proofs.Table.{reader-lawful, by-window, one-thing}
+use Rattle.stream.proofs.Table.{reader-lawful, by-window}
 use Rattle.stream.proofs.Determined.{stop-one}
 use Rattle.stream.proofs.History.{call-means, call-none-due}
 use Rattle.stream.proofs.inner.Promise.{row-length, three-most, waits}

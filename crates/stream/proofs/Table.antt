@@ -1,11 +1,10 @@
 -- The reader is a lawful framing (`reader-lawful`), each phase looks by a window (`by-window`), and a byte makes one thing due at most (`one-thing`).
-use mathlib.Core.Path.{_≡_, refl, sym, ap, ap₂}
+use mathlib.Core.Path.{_≡_, refl, ap₂}
 use mathlib.Core.Bool.{Bool, true, false, cond, _&&_}
 use mathlib.Core.List.{List, [], _∷_, append-nil, flatMap}
-use Prim.Native.Nat.{ℕ, _≤_, _<_}
+use Prim.Native.Nat.{ℕ, _≤_}
 use native.Mathlib.Omega.{arith}
 use borrow.Author.Tests.{eqb-true, eq-eqb}
-use lib.Dec.{eqb}
 use lib.ListN.{length}
 use Rattle.framing.specs.Framing.{more, Lawful, State, fed, test}
 use Rattle.paper.specs.Outcome.{Outcome, gives, refuses, ifGiven}

@@ -1,5 +1,5 @@
 -- The reader's state: what every value of it means, and how a meaning is written.
-use mathlib.Core.List.{List, [], _++_}
+use mathlib.Core.List.{List, _++_}
 use Prim.Native.Nat.{ℕ, _-_, min}
 use lib.ListN.{length, take, replicate}
 use Rattle.framing.specs.Framing.{State, fresh}

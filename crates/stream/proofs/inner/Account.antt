@@ -1,18 +1,18 @@
 -- What a call comes to at a place of the bytes: too few bytes (`comes-short`), a window that fails (`comes-skip`), a sample with room
 -- (`comes-sample`) and without (`comes-full`), a thing that ends the call (`comes-ended`); and bytes that are passed (`moves-skip`, `moves-sample`).
-use mathlib.Core.Path.{_≡_, refl, sym, ap, _∙_}
-use mathlib.Core.Bool.{Bool, true, false}
-use mathlib.Core.List.{List, [], _∷_, _++_, append-nil, flatMap, map}
+use mathlib.Core.Path.{_≡_, refl, ap, _∙_}
+use mathlib.Core.Bool.{true}
+use mathlib.Core.List.{List, [], _∷_, _++_, flatMap}
 use Prim.Native.Nat.{ℕ, suc, _+_, _-_, _≤_, _<_}
 use native.Mathlib.Nat.{add-zero, add-assoc, le-refl}
 use native.Mathlib.Omega.{arith}
 use borrow.Author.Tests.{le-leb, lt-leb}
 use lib.ListN.{length, take, drop, length-append, length-drop}
 use lib.Seq.{sets, length-sets, take-append-le, drop-append-le, drop-drop}
-use Rattle.framing.specs.Framing.{Step, skip, frame, size, State, fresh, after}
-use Rattle.framing.specs.Run.{Result, stopped, joined, events, skipped}
-use Rattle.framing.specs.Stages.{Verdict, fails, passes, stepOf}
-use Rattle.framing.specs.Calls.{outputs, begins, allTaken, endedBy, noRoom, Answer, call}
+use Rattle.framing.specs.Framing.{Step, skip, frame, size, fresh, after}
+use Rattle.framing.specs.Run.{stopped, joined, events, skipped}
+use Rattle.framing.specs.Stages.{fails, passes, stepOf}
+use Rattle.framing.specs.Calls.{outputs, begins, endedBy, Answer}
 use Rattle.framing.proofs.Places.{alsoGives, behind, call-gives, call-ends}
 use Rattle.framing.proofs.Windows.{at-end, at-skip, at-gives, at-stop}
 use Rattle.wire.specs.declared.sample.Sample.{Sample}
@@ -21,7 +21,7 @@ use Rattle.stream.specs.declared.Phase.{Phase}
 use Rattle.stream.specs.declared.Stop.the-variants.{AllTaken, NoRoom}
 use Rattle.stream.specs.Table.{Event, samples, Thing, point, width, says, follows, reader, giving, thingsOf, wordsFor, endsCall, rowOf}
 use Rattle.stream.specs.Stops.{replyFor, stopOf}
-use Rattle.stream.specs.inner.Account.{put, Account, account, comesTo, Moves}
+use Rattle.stream.specs.inner.Account.{put, account, comesTo, Moves}
 use Rattle.stream.proofs.Table.{width-pos, reader-lawful, by-window}
 
 -- ---- a step, and then what comes behind it

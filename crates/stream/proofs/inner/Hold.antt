@@ -1,5 +1,5 @@
 -- Copies of held bytes: `copied-more` for the loop, `joined-by` and `held-by` for what the copies leave; and counts that stay at their largest (`capped-capped`).
-use mathlib.Core.Path.{_≡_, refl, sym, ap, _∙_}
+use mathlib.Core.Path.{_≡_, refl, ap, _∙_}
 use mathlib.Core.List.{List, [], _++_}
 use Prim.Native.Nat.{ℕ, zero, suc, _+_, _-_, _≤_, _<_}
 use native.Mathlib.Nat.{sub-zero, zero-sub, le-refl}

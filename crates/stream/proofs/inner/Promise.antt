@@ -1,15 +1,15 @@
 -- What a call comes to is its promise: `comes-reads`, from a reader's held bytes and plain lists; `comes` makes such an account.
 use mathlib.Core.Path.{_≡_, refl, sym, ap, _∙_}
-use mathlib.Core.List.{List, [], _∷_, _++_, append-assoc, append-nil, flatMap}
+use mathlib.Core.List.{List, [], _∷_, _++_, append-assoc, flatMap}
 use Prim.Native.Nat.{ℕ, suc, _+_, _-_, _≤_, _<_, min}
 use native.Mathlib.Nat.{add-zero, zero-add, sub-zero}
 use native.Mathlib.Omega.{arith}
 use lib.ListN.{length, take, drop, set, length-append, length-take, take-append-drop}
 use lib.Seq.{sets, sets-eq, length-sets, take-at, drop-set-lt, length-take-le}
 use Rattle.paper.specs.Writing.{over}
-use Rattle.framing.specs.Framing.{more, State, fresh, test}
+use Rattle.framing.specs.Framing.{more, fresh, test}
 use Rattle.framing.specs.Run.{stopped, joined, skipped}
-use Rattle.framing.specs.Calls.{wordsOf as wordsIn, Answer, call}
+use Rattle.framing.specs.Calls.{wordsOf as wordsIn, Answer}
 use Rattle.framing.proofs.Calls.{call-words}
 use Rattle.framing.proofs.Places.{behind, call-held}
 use Rattle.framing.proofs.Windows.{look-few}
@@ -19,8 +19,8 @@ use Rattle.stream.specs.declared.Phase.{Phase}
 use Rattle.stream.specs.declared.Reader.{Reader}
 use Rattle.stream.specs.declared.Reading.{Reading}
 use Rattle.stream.specs.Table.{Event, Thing, headed, replied, unread, point, width, reader, giving, wordsFor, rowOf}
-use Rattle.stream.specs.State.{heldOf, meaning, twenty, written}
-use Rattle.stream.specs.Stops.{stopNumber, replyFor, stopOf}
+use Rattle.stream.specs.State.{heldOf, meaning}
+use Rattle.stream.specs.Stops.{stopNumber}
 use Rattle.stream.specs.Promises.{called, rowGiven, Reads}
 use Rattle.stream.specs.inner.Account.{put, Account, account, comesTo, readingOf, Comes}
 use Rattle.stream.proofs.Table.{width-pos, reader-lawful, by-window}

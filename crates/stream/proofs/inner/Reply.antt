@@ -1,17 +1,17 @@
 -- Replies and an idle reader, as code reads them: `reply-short`, `reply-good`, `reply-bad` and `idle-comes` for the answers.
 use mathlib.Core.Path.{_≡_, refl, sym, ap, _∙_}
-use mathlib.Core.Bool.{Bool, true, false, cond}
+use mathlib.Core.Bool.{true, false, cond}
 use mathlib.Core.List.{List, [], _∷_, _++_, append-assoc, flatMap}
 use Prim.Native.Nat.{ℕ, _+_, _-_, _≤_, _<_, min}
 use native.Mathlib.Nat.{zero-add, add-zero, sub-zero}
 use native.Mathlib.Omega.{arith}
 use borrow.Author.Tests.{ne-eqb}
-use lib.ListN.{length, take, drop, replicate, length-append, length-take}
+use lib.ListN.{length, take, replicate, length-append, length-take}
 use lib.Seq.{take-at, take-all, take-append-add, length-take-le}
 use Rattle.paper.specs.Outcome.{Outcome, gives, refuses, ifGiven}
-use Rattle.framing.specs.Framing.{Step, frame, reject, size, State, fresh, after}
+use Rattle.framing.specs.Framing.{Step, frame, reject, size, fresh, after}
 use Rattle.framing.specs.Run.{events, skipped}
-use Rattle.framing.specs.Stages.{Verdict, fails, passes, spoiled, stepOf}
+use Rattle.framing.specs.Stages.{passes, spoiled, stepOf}
 use Rattle.framing.specs.Calls.{outputs, endedBy}
 use Rattle.paper.specs.declared.refusal.Refusal.{Refusal}
 use Rattle.wire.specs.Reply.{healthOf, healthRead}
@@ -28,7 +28,7 @@ use Rattle.stream.specs.Table.{Event, reply, badHealth, Thing, replied, 
 use Rattle.stream.specs.State.{heldOf, twenty, capped, written}
 use Rattle.stream.specs.Stops.{replyFor, stopOf}
 use Rattle.stream.specs.Promises.{Reads}
-use Rattle.stream.specs.inner.Account.{put, Account, comesTo, readingOf, Comes}
+use Rattle.stream.specs.inner.Account.{put, comesTo, readingOf, Comes}
 use Rattle.stream.specs.inner.Hold.{holding}
 use Rattle.stream.specs.inner.Reply.{bad, Awaits, Replies}
 use Rattle.stream.proofs.inner.Account.{comes-short, comes-skip, comes-ended}

@@ -1,15 +1,15 @@
 -- Seeking, as code does it: `sought-next` and `sought-found` for the loop, `seek-full`, `seek-end` and `seek-then` for the answers.
 use mathlib.Core.Path.{_≡_, refl, sym, ap, _∙_}
 use mathlib.Core.Bool.{Bool, true, false}
-use mathlib.Core.List.{List, [], _∷_, _++_, append-nil, flatMap}
+use mathlib.Core.List.{List, [], _++_, append-nil, flatMap}
 use Prim.Native.Nat.{ℕ, _+_, _-_, _≤_, _<_}
 use native.Mathlib.Nat.{zero-add, add-zero, le-refl, sub-zero}
 use native.Mathlib.Omega.{arith}
 use lib.ListN.{length, take, drop, getD, replicate, length-append, length-drop}
 use lib.Seq.{getD-take, getD-drop, ext-getD, length-take-le, take-append-le}
-use Rattle.framing.specs.Framing.{frame, size, State, fresh, after}
+use Rattle.framing.specs.Framing.{frame, size, fresh, after}
 use Rattle.framing.specs.Run.{events, skipped}
-use Rattle.framing.specs.Stages.{Verdict, fails, passes, stepOf}
+use Rattle.framing.specs.Stages.{fails, passes, stepOf}
 use Rattle.framing.specs.Calls.{outputs}
 use Rattle.stream.specs.declared.Phase.{Phase}
 use Rattle.stream.specs.declared.Phase.the-variants.{SeekInfo, SeekHealth, SeekScan, InfoReply, HealthReply, Scanning}
@@ -17,7 +17,7 @@ use Rattle.stream.specs.declared.Stop.the-variants.{AllTaken, Descriptor
 use Rattle.stream.specs.declared.Reader.{Reader}
 use Rattle.stream.specs.declared.Reading.{Reading}
 use Rattle.wire.specs.Descriptor.{infoDescriptor, healthDescriptor, scanDescriptor}
-use Rattle.stream.specs.Table.{Event, descriptor, headed, same, seeking, width, says, follows, reader, thingsOf, wordsFor, endsCall, rowOf}
+use Rattle.stream.specs.Table.{descriptor, headed, same, seeking, width, says, follows, reader, thingsOf, wordsFor, endsCall, rowOf}
 use Rattle.stream.specs.State.{twenty, capped, written}
 use Rattle.stream.specs.Stops.{replyFor, stopOf}
 use Rattle.stream.specs.inner.Account.{put, Account, comesTo, Moves, readingOf, Comes}

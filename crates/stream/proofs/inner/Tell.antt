@@ -1,13 +1,12 @@
 -- Being told a request, as code does it: `turned-to` for what is taken, `tells-taken` and `tells-refused` for the promise.
-use mathlib.Core.Path.{_≡_, refl, sym, ap, _∙_}
+use mathlib.Core.Path.{_≡_, sym, ap, _∙_}
 use mathlib.Core.List.{[]}
 use Prim.Native.Nat.{ℕ, _+_, _-_, _<_, min}
 use lib.ListN.{length, take}
-use Rattle.paper.specs.Outcome.{Outcome, gives, refuses, ifGiven, mapped}
+use Rattle.paper.specs.Outcome.{gives, refuses, ifGiven, mapped}
 use Rattle.paper.specs.Refusals.{numberOf, answered}
 use Rattle.paper.specs.declared.refusal.Refusal.the-variants.{CodeNotPermitted}
 use Rattle.paper.specs.declared.refusal.Answer.the-variants.{Done, Refused}
-use Rattle.framing.specs.Framing.{fresh}
 use Rattle.wire.specs.declared.request.Request.{Request}
 use Rattle.wire.specs.declared.request.Kind.{Kind}
 use Rattle.wire.specs.declared.request.Kind.the-variants.{Other}
@@ -16,7 +15,7 @@ use Rattle.stream.specs.declared.Phase.{Phase}
 use Rattle.stream.specs.declared.Reader.{Reader}
 use Rattle.stream.specs.declared.Told.{Told}
 use Rattle.stream.specs.Table.{width}
-use Rattle.stream.specs.State.{heldOf, twenty, capped, written}
+use Rattle.stream.specs.State.{heldOf, capped, written}
 use Rattle.stream.specs.Telling.{opening, opens}
 use Rattle.stream.specs.Promises.{Tells}
 use Rattle.stream.specs.inner.Hold.{holding}

@@ -7,7 +7,6 @@ use lib.Seq.{sets}
 use Rattle.framing.specs.Framing.{State, fresh}
 use Rattle.framing.specs.Run.{skipped}
 use Rattle.framing.specs.Calls.{Answer, call}
-use Rattle.wire.specs.declared.sample.Sample.{Sample}
 use Rattle.wire.specs.Sample.{wordsOf}
 use Rattle.stream.specs.declared.Phase.{Phase}
 use Rattle.stream.specs.declared.Stop.{Stop}

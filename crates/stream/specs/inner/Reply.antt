@@ -6,7 +6,7 @@ use Prim.Native.Nat.{ℕ, _-_, _≤_, _<_}
 use lib.Dec.{eqb}
 use lib.ListN.{length, take}
 use Rattle.paper.specs.Outcome.{ifGiven}
-use Rattle.framing.specs.Stages.{Verdict, passes, spoiled}
+use Rattle.framing.specs.Stages.{passes, spoiled}
 use Rattle.wire.specs.Reply.{healthOf}
 use Rattle.stream.specs.declared.Phase.{Phase}
 use Rattle.stream.specs.declared.Phase.the-variants.{Idle}
