@@ -11,6 +11,8 @@ mod tell;
 use paper::refusal::Answer;
 use paper::refusal::Refusal;
 use wire::descriptor::Descriptor;
+use wire::reply::Health;
+use wire::reply::Info;
 use wire::request::Kind;
 use wire::request::Request;
 ghost use Rattle.stream.specs.Promises.{Made, Reads, Tells};
@@ -95,8 +97,8 @@ impl Reader {
             Phase::SeekInfo => held::find(self, Phase::InfoReply, &Descriptor::INFO, input),
             Phase::SeekHealth => held::find(self, Phase::HealthReply, &Descriptor::HEALTH, input),
             Phase::SeekScan => held::find(self, Phase::Scanning, &Descriptor::SCAN, input),
-            Phase::InfoReply => held::gather(self, 20, input),
-            Phase::HealthReply => held::gather(self, 3, input),
+            Phase::InfoReply => held::gather(self, Info::BYTES, input),
+            Phase::HealthReply => held::gather(self, Health::BYTES, input),
             Phase::Scanning => held::scan(self, input, words),
         }
     }

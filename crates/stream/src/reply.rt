@@ -18,10 +18,10 @@ fn is_bad(need: usize, joint: &[u8]) -> bool
     requires { ⌜ 3 ≤ length (now joint) ⌝ }
     ensures { λ r. ⌜ r ≡ bad need (take need (now (joint .entry))) ⌝ }
 {
-    if need != 3 {
+    if need != Health::BYTES {
         return false;
     }
-    match Health::read(&joint[..3]) {
+    match Health::read(&joint[..Health::BYTES]) {
         HealthRead::Gives(_) => false,
         HealthRead::Refused(_) => true,
     }
