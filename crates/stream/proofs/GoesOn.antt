@@ -1,4 +1,5 @@
 -- No caller is stuck: `call-goes-on`: with a byte at hand and room for three words a call takes a byte; `goes-on`: so every stream can be used up.
+-- `taken-within` and `words-within`: a call's counts stay within what it was lent.
 use mathlib.Core.Path.{refl}
 use mathlib.Core.List.{List, [], _∷_, _++_, map, append-nil}
 use Prim.Native.Nat.{ℕ, zero, suc, _+_, _≤_}
@@ -8,7 +9,7 @@ use Rattle.paper.specs.Writing.{over as over-row}
 use Rattle.framing.specs.Run.{skipped}
 use Rattle.framing.specs.Calls.{Answer as CallAnswer}
 use Rattle.framing.specs.Stream.{Input, byte}
-use Rattle.framing.proofs.Calls.{call-progress}
+use Rattle.framing.proofs.Calls.{call-taken, call-progress}
 use Rattle.wire.specs.declared.request.Request.{Request}
 use Rattle.stream.specs.declared.Phase.{Phase}
 use Rattle.stream.specs.declared.Reader.{Reader}
@@ -18,7 +19,15 @@ use Rattle.stream.specs.State.{meaning, twenty, written}
 use Rattle.stream.specs.Stops.{replyFor, stopOf}
 use Rattle.stream.specs.Promises.{called, rowGiven, Reads}
 use Rattle.stream.specs.History.{Seen, seenBy, History, over, reads}
-use Rattle.stream.proofs.inner.Promise.{three-most}
+use Rattle.stream.proofs.inner.Promise.{three-most, row-fits}
+
+-- a call takes no more than it is handed, and writes no more words than there are
+pub taken-within : {s : Reader} {input was row : List ℕ} {r : Reading} → Reads s input was r row → r .taken ≤ length input
+unfolding called
+taken-within {s} {input} {was} h = rw (h .taken) (call-taken reader giving (meaning s) [] input (length was))
+
+pub words-within : {s : Reader} {input was row : List ℕ} {r : Reading} → Reads s input was r row → r .words ≤ length was
+words-within {s} {input} {was} h = rw (h .words) (row-fits s input was)
 
 -- a call with a byte at hand and room for three words takes a byte
 pub call-goes-on : {s : Reader} {b : ℕ} {bs was row : List ℕ} {r : Reading} → Reads s (b ∷ bs) was r row → 3 ≤ length was → 1 ≤ r .taken

@@ -98,7 +98,7 @@ module _ (self : Reader) (input was : List ℕ) where
       ∙ held-first 0 (self .skipped)
       ∙ rw zero-add
 
-  row-fits : length (rowGiven self input was) ≤ length was
+  pub row-fits : length (rowGiven self input was) ≤ length was
   unfolding rowGiven called
   row-fits = omega (arith, row-length (a .given), call-words reader giving (meaning self) [] input (length was))
 
