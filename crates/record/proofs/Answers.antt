@@ -1,6 +1,6 @@
 -- What a reader's answer means determines it: `number-read-one`, `count-read-one`, `cell-read-one`.
 use Prim.Native.Nat.{ℕ}
-use mathlib.Core.Path.{_≡_, refl, sym, ap, _∙_}
+use mathlib.Core.Path.{_≡_, sym, ap}
 use Rattle.paper.specs.declared.unit.DistanceQ2.{DistanceQ2}
 use Rattle.paper.proofs.Outcome.{gives-one, gives-refuses}
 use Rattle.paper.proofs.Refusals.{refused-one}
