@@ -6,15 +6,16 @@ use mathlib.Core.List.{List}
 use mathlib.Core.Option.{none, some}
 use native.Mathlib.Omega.{arith}
 use Rattle.paper.proofs.Outcome.{gives-one, gives-refuses}
-use Rattle.paper.proofs.Refusals.{refused-one}
+use Rattle.paper.proofs.Refusals.{refused-one, answered-one}
 use Rattle.paper.specs.Writing.{Writes}
+use Rattle.paper.specs.declared.refusal.Answer.{Answer}
 use Rattle.paper.specs.declared.refusal.Written.{Written}
 use Rattle.paper.proofs.Determined.{writes-determined}
 use Rattle.wire.specs.declared.request.Request.{Request}
 use Rattle.wire.specs.declared.reply.Info.{Info}
 use Rattle.wire.specs.declared.sample.Sample.{Sample}
 use Rattle.device.specs.Collector.{completes}
-use Rattle.device.specs.Model.{sampleSent, healthIsSet}
+use Rattle.device.specs.Model.{sampleSent}
 use Rattle.device.specs.Promises.{FreshCollector, ByteCollected, FreshModel, Asking, InAnother, MotorSet, ErrorSet, HealthSetting}
 use Rattle.device.specs.declared.collector.Collector.{Collector}
 use Rattle.device.specs.declared.collector.Completed.{Completed}
@@ -24,7 +25,6 @@ use Rattle.device.specs.declared.model.State.{State}
 use Rattle.device.specs.declared.model.Model.{Model}
 use Rattle.device.specs.declared.model.Asked.{Asked}
 use Rattle.device.specs.declared.model.HealthSet.{HealthSet}
-use Rattle.device.specs.declared.model.HealthSet.the-variants as healthSet
 
 none-some : {A : Type 0} {a : A} → none ≡ some a → ⊥
 none-some e = let z : _≡_ {A = ℕ} 0 1 = cc in omega arith
@@ -58,11 +58,11 @@ byte-determined {r = r} {q = q} x y =
     let both : Collector → Completed → Collected = λ c a. record { collector = c; answer = a } in
     (ap₂ both c a, x .memory ∙ sym (y .memory))
 
-pub model-new-determined : {r s : Model} → FreshModel r → FreshModel s → r ≡ s
+pub model-new-determined : {info : Info} {r s : Model} → FreshModel info r → FreshModel info s → r ≡ s
 model-new-determined p q = p .answer ∙ sym (q .answer)
 
-pub request-determined : {m : Model} {info : Info} {request : Request} {was : List ℕ} {r q : Asked} {is js : List ℕ} → Asking m info request was r is
-    → Asking m info request was q js → (r ≡ q) × (is ≡ js)
+pub request-determined : {m : Model} {request : Request} {was : List ℕ} {r q : Asked} {is js : List ℕ} → Asking m request was r is
+    → Asking m request was q js → (r ≡ q) × (is ≡ js)
 request-determined {r = r} {q = q} x y =
     let w = writes-determined (x .answer) (y .answer) in
     let m : r .model ≡ q .model = x .model ∙ sym (y .model) in
@@ -82,14 +82,10 @@ motor-determined p q = p .answer ∙ sym (q .answer)
 pub error-determined : {m : Model} {error : ℕ} {r q : Model} → ErrorSet m error r → ErrorSet m error q → r ≡ q
 error-determined p q = p .answer ∙ sym (q .answer)
 
--- a setting's answer is determined by what it means
-pub health-set-one : (r q : HealthSet) → healthIsSet r ≡ healthIsSet q → r ≡ q
-unfolding healthIsSet
-health-set-one (healthSet.Gives m) (healthSet.Gives n) e = ap healthSet.Gives (gives-one e)
-health-set-one (healthSet.Gives m) (healthSet.Refused b) e = absurd (gives-refuses e)
-health-set-one (healthSet.Refused a) (healthSet.Gives n) e = absurd (gives-refuses (sym e))
-health-set-one (healthSet.Refused a) (healthSet.Refused b) e = ap healthSet.Refused (refused-one a b e)
-
 -- of `Model::set_status` and `Model::set_health`
 pub setting-determined : {m : Model} {status error : ℕ} {r q : HealthSet} → HealthSetting m status error r → HealthSetting m status error q → r ≡ q
-setting-determined {r = r} {q = q} x y = health-set-one r q (x .answer ∙ sym (y .answer))
+setting-determined {r = r} {q = q} x y =
+    let a : r .answer ≡ q .answer = answered-one (r .answer) (q .answer) (x .answer ∙ sym (y .answer)) in
+    let m : r .model ≡ q .model = x .model ∙ sym (y .model) in
+    let both : Model → Answer → HealthSet = λ m a. record { model = m; answer = a } in
+    ap₂ both m a

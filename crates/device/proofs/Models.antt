@@ -4,15 +4,15 @@ use mathlib.Core.Path.{_≡_, refl, sym, ap, _∙_}
 use mathlib.Core.Bool.{Bool, true, false, cond, not}
 use mathlib.Core.List.{List, [], _∷_, _++_, append-nil}
 use native.Mathlib.Omega.{arith}
-use lib.Dec.{eqb}
 use lib.ListN.{length, drop-of-length-le}
 use borrow.Author.Tests.{lt-ltb, le-ltb}
 use Rattle.paper.specs.Outcome.{Outcome, gives, refuses, ifGiven, mapped}
-use Rattle.paper.specs.Refusals.{numberOf, written}
+use Rattle.paper.specs.Refusals.{numberOf, answered, written}
 use Rattle.paper.specs.Words.{bytesOf}
 use Rattle.paper.specs.Writing.{Writes, over, fitting}
 use Rattle.paper.specs.declared.refusal.Refusal.{Refusal}
 use Rattle.paper.specs.declared.refusal.Refusal.the-variants.{NotAReply, NoSampleSent}
+use Rattle.paper.specs.declared.refusal.Answer.the-variants as answer
 use Rattle.paper.specs.declared.refusal.Written.{Written}
 use Rattle.paper.specs.declared.refusal.Written.the-variants as writing
 use Rattle.paper.proofs.Outcome.{gives-refuses, refuse-yes, refuse-no}
@@ -26,20 +26,19 @@ use Rattle.wire.specs.declared.request.Kind.{Kind}
 use Rattle.wire.specs.declared.reply.Info.{Info}
 use Rattle.wire.specs.declared.reply.Health.{Health}
 use Rattle.wire.specs.declared.sample.Sample.{Sample}
-use Rattle.device.specs.Model.{inState, protected, stateAfter, healthNow, behindDescriptor, sent, sendsSamples, sampleSent, withHealth, healthIsSet}
+use Rattle.device.specs.Model.{inState, protected, stateAfter, healthNow, behindDescriptor, sent, sendsSamples, sampleSent, setting, withHealth}
 use Rattle.device.specs.Promises.{Asking, InAnother, HealthSetting}
 use Rattle.device.specs.declared.model.State.{State}
 use Rattle.device.specs.declared.model.State.the-variants.{Idle, Scanning, ForceScanning, ProtectionStop}
 use Rattle.device.specs.declared.model.Model.{Model}
-use Rattle.device.specs.declared.model.HealthSet.the-variants as healthSet
 
 -- no bytes are written
 pub wrote-nothing : (was : List ℕ) → Writes (gives []) was (writing.Bytes 0) was
 unfolding over
 wrote-nothing was = writes-all [] was was 0 (omega arith) refl refl
 
-pub sent-as : (m : Model) (info : Info) {kind k : Kind} {was is : List ℕ} {r : Written} → kind ≡ k → Writes (sent m info k) was r is → Writes (sent m info kind) was r is
-sent-as m info e w = writes-same (ap (sent m info) (sym e)) w
+pub sent-as : (m : Model) {kind k : Kind} {was is : List ℕ} {r : Written} → kind ≡ k → Writes (sent m k) was r is → Writes (sent m kind) was r is
+sent-as m e w = writes-same (ap (sent m) (sym e)) w
 
 -- a reply is written into as many bytes as it has, and then sent behind its descriptor
 pub reply-behind : (d reply blank mid was is : List ℕ) {o : Outcome (List ℕ)} {q r : Written} → o ≡ gives reply → length reply ≡ length blank → Writes o blank q mid
@@ -90,24 +89,24 @@ unfolding mapped ifGiven
 refused-when (gives xs) a b e = absurd (gives-refuses (sym e))
 refused-when (refuses m) a b e = refl
 
-module _ (m : Model) (info : Info) (request : Request) (was is : List ℕ) (w : Written) (kind : Kind) (k : kind ≡ kindOf (request .0))
-    (sending : Writes (sent m info kind) was w is) where
-  writing-it : Writes (sent m info (kindOf (request .0))) was w is
+module _ (m : Model) (request : Request) (was is : List ℕ) (w : Written) (kind : Kind) (k : kind ≡ kindOf (request .0))
+    (sending : Writes (sent m kind) was w is) where
+  writing-it : Writes (sent m (kindOf (request .0))) was w is
   writing-it = rw k at sending
 
   pub asking-done : (n : ℕ) (s : State) (r : Model) → w ≡ writing.Bytes n → s ≡ stateAfter kind (m .state) → InAnother m s r
-      → Asking m info request was (record { model = r; answer = w }) is
+      → Asking m request was (record { model = r; answer = w }) is
   unfolding written
   asking-done n s r e q d =
-      let o = fitting (length was) (sent m info (kindOf (request .0))) in
+      let o = fitting (length was) (sent m (kindOf (request .0))) in
       let given : gives n ≡ mapped length o = ap written (sym e) ∙ writing-it .answer in
       let state : s ≡ stateAfter (kindOf (request .0)) (m .state) = q ∙ ap (λ (x : Kind). stateAfter x (m .state)) k in
       record { answer = writing-it; model = d .answer ∙ ap (inState m) state ∙ sym (given-when o _ _ given) }
 
-  pub asking-refused : (q : Refusal) → w ≡ writing.Refused q → Asking m info request was (record { model = m; answer = w }) is
+  pub asking-refused : (q : Refusal) → w ≡ writing.Refused q → Asking m request was (record { model = m; answer = w }) is
   unfolding written
   asking-refused q e =
-      let o = fitting (length was) (sent m info (kindOf (request .0))) in
+      let o = fitting (length was) (sent m (kindOf (request .0))) in
       let given : refuses (numberOf q) ≡ mapped length o = ap written (sym e) ∙ writing-it .answer in
       record { answer = writing-it; model = sym (refused-when o _ _ given) }
 
@@ -125,11 +124,14 @@ module _ (m : Model) (x : Sample) {b : Bool} (e : b ≡ sendsSamples (m .state) 
 -- ---- settings
 
 module _ (m : Model) (status error : ℕ) where
-  pub setting-over : 1 < status → HealthSetting m status error (healthSet.Refused NotAReply)
-  unfolding withHealth healthIsSet
-  setting-over h = record { answer = sym (refuse-yes (numberOf NotAReply) _ (lt-ltb 1 status h)) }
+  pub setting-over : 1 < status → HealthSetting m status error (record { model = m; answer = answer.Refused NotAReply })
+  unfolding setting answered ifGiven
+  setting-over h =
+      let e = refuse-yes (numberOf NotAReply) (gives tt) (lt-ltb 1 status h) in
+      record { answer = sym e; model = ap (λ (o : Outcome (Unit {0})). ifGiven o (λ _. withHealth m status error) m) (sym e) }
 
-  pub setting-fit : status ≤ 1
-      → HealthSetting m status error (healthSet.Gives (record { state = m .state; stable = m .stable; warning = eqb status 1; error = error }))
-  unfolding withHealth healthIsSet
-  setting-fit h = record { answer = sym (refuse-no (numberOf NotAReply) _ (le-ltb 1 status h)) }
+  pub setting-fit : status ≤ 1 → HealthSetting m status error (record { model = withHealth m status error; answer = answer.Done })
+  unfolding setting answered ifGiven
+  setting-fit h =
+      let e = refuse-no (numberOf NotAReply) (gives tt) (le-ltb 1 status h) in
+      record { answer = sym e; model = ap (λ (o : Outcome (Unit {0})). ifGiven o (λ _. withHealth m status error) m) (sym e) }

@@ -24,7 +24,6 @@ use Rattle.wire.proofs.WriteThenRead.{info-back, health-back, sample-back}
 use Rattle.wire.specs.declared.request.Request.{Request}
 use Rattle.wire.specs.declared.request.Kind.{Kind}
 use Rattle.wire.specs.declared.request.Kind.the-variants.{Scan, ForceScan, GetInfo, GetHealth}
-use Rattle.wire.specs.declared.reply.Info.{Info}
 use Rattle.wire.specs.declared.sample.Sample.{Sample}
 use Rattle.device.specs.Model.{protected, healthNow, behindDescriptor, sent, sendsSamples, sampleSent}
 use Rattle.device.specs.Promises.{Asking}
@@ -68,10 +67,10 @@ unfolding descriptorOf isDescriptor descriptorIn scanDescriptor infoDescriptor h
 descriptors-read = (refl, refl, refl)
 
 -- a request that was answered with n bytes
-module _ (m : Model) (info : Info) (request : Request) (was is : List ℕ) (r : Asked) (n : ℕ) (done : r .answer ≡ writing.Bytes n)
-    (asking : Asking m info request was r is) where
-  front-of : (kind : Kind) → kindOf (request .0) ≡ kind → Front (sent m info kind) n is
-  front-of kind k = written-front (sent m info kind) was is n (rw (k, done) at (asking .answer))
+module _ (m : Model) (request : Request) (was is : List ℕ) (r : Asked) (n : ℕ) (done : r .answer ≡ writing.Bytes n)
+    (asking : Asking m request was r is) where
+  front-of : (kind : Kind) → kindOf (request .0) ≡ kind → Front (sent m kind) n is
+  front-of kind k = written-front (sent m kind) was is n (rw (k, done) at (asking .answer))
 
   -- SCAN and FORCE_SCAN: the expected descriptor, or nothing in protection stop
   pub scan-read : (forced : Bool) → kindOf (request .0) ≡ cond forced ForceScan Scan → take n is ≡ protected (m .state) [] scanDescriptor
@@ -80,11 +79,12 @@ module _ (m : Model) (info : Info) (request : Request) (was is : List ℕ) (r : 
   scan-read false k = let f = front-of Scan k in f .front ∙ sym (gives-one (f .given))
 
   -- GET_INFO: the expected descriptor, and then bytes that read to the info that the bench gave
-  pub info-read : kindOf (request .0) ≡ GetInfo → length (info .serial) ≡ 16 → (take 7 (take n is) ≡ infoDescriptor) × (infoOf (drop 7 (take n is)) ≡ gives info)
+  pub info-read : kindOf (request .0) ≡ GetInfo → length (m .info .serial) ≡ 16
+      → (take 7 (take n is) ≡ infoDescriptor) × (infoOf (drop 7 (take n is)) ≡ gives (m .info))
   unfolding sent infoDescriptor
   info-read k l =
-      let f = behind-front infoDescriptor (bytesOfInfo info) n is refl (front-of GetInfo k) in
-      (f .0, info-back info (drop 7 (take n is)) l (f .1))
+      let f = behind-front infoDescriptor (bytesOfInfo (m .info)) n is refl (front-of GetInfo k) in
+      (f .0, info-back (m .info) (drop 7 (take n is)) l (f .1))
 
   -- GET_HEALTH: the expected descriptor, and then bytes that read to the model's health
   pub health-read : kindOf (request .0) ≡ GetHealth → m .error < 65536

@@ -17,16 +17,14 @@ use Rattle.wire.specs.declared.sample.Sample.{Sample}
 use Rattle.device.specs.declared.model.State.{State}
 use Rattle.device.specs.declared.model.State.the-variants.{Idle, Scanning, ForceScanning, ProtectionStop}
 use Rattle.device.specs.declared.model.Model.{Model}
-use Rattle.device.specs.declared.model.HealthSet.{HealthSet}
-use Rattle.device.specs.declared.model.HealthSet.the-variants as healthSet
 
--- fresh: idle, motor not stable, status and error code 0
-unfoldable pub fresh : Model
-fresh = record { state = Idle; stable = false; warning = false; error = 0 }
+-- fresh: idle, motor not stable, status and error code 0, with the info that the bench gives
+unfoldable pub fresh : Info → Model
+fresh info = record { state = Idle; stable = false; warning = false; error = 0; info = info }
 
--- the model in another state, with all that the bench set
+-- the model in another state, with all that the bench gave and set
 unfoldable pub inState : Model → State → Model
-inState m s = record { state = s; stable = m .stable; warning = m .warning; error = m .error }
+inState m s = record { state = s; stable = m .stable; warning = m .warning; error = m .error; info = m .info }
 
 -- one thing in protection stop, and another in every other state
 unfoldable pub protected : {A : Type 0} → State → A → A → A
@@ -35,7 +33,7 @@ protected Idle a b = b
 protected Scanning a b = b
 protected ForceScanning a b = b
 
--- RESET: idle from any. SCAN and FORCE_SCAN: idle or scanning become scanning. STOP, GET_INFO, GET_HEALTH: scanning becomes idle. Protection stop stays but for RESET.
+-- RESET: idle from any. SCAN and FORCE_SCAN: idle or scanning become scanning. STOP, GET_INFO and GET_HEALTH: scanning becomes idle, others stay.
 unfoldable pub stateAfter : Kind → State → State
 stateAfter Reset s = Idle
 stateAfter Scan s = protected s ProtectionStop Scanning
@@ -53,15 +51,15 @@ healthNow m = record { status = protected (m .state) errorStatus (cond (m .warni
 unfoldable pub behindDescriptor : List ℕ → Outcome (List ℕ) → Outcome (List ℕ)
 behindDescriptor d reply = mapped (λ xs. d ++ xs) reply
 
--- SCAN and FORCE_SCAN are answered with a descriptor, in protection stop nothing is sent; GET_INFO and GET_HEALTH with descriptor and reply; any other code is refused
-unfoldable pub sent : Model → Info → Kind → Outcome (List ℕ)
-sent m info Stop = gives []
-sent m info Reset = gives []
-sent m info Scan = gives (protected (m .state) [] scanDescriptor)
-sent m info ForceScan = gives (protected (m .state) [] scanDescriptor)
-sent m info GetInfo = behindDescriptor infoDescriptor (bytesOfInfo info)
-sent m info GetHealth = behindDescriptor healthDescriptor (bytesOfHealth (healthNow m))
-sent m info Other = refuses (numberOf CodeNotPermitted)
+-- SCAN and FORCE_SCAN: a descriptor; in protection stop nothing is sent. GET_INFO and GET_HEALTH: descriptor and reply. Any other code is refused.
+unfoldable pub sent : Model → Kind → Outcome (List ℕ)
+sent m Stop = gives []
+sent m Reset = gives []
+sent m Scan = gives (protected (m .state) [] scanDescriptor)
+sent m ForceScan = gives (protected (m .state) [] scanDescriptor)
+sent m GetInfo = behindDescriptor infoDescriptor (bytesOfInfo (m .info))
+sent m GetHealth = behindDescriptor healthDescriptor (bytesOfHealth (healthNow m))
+sent m Other = refuses (numberOf CodeNotPermitted)
 
 -- samples are sent after FORCE_SCAN always, after SCAN only while the motor is stable
 unfoldable pub sendsSamples : State → Bool → Bool
@@ -75,11 +73,9 @@ unfoldable pub sampleSent : Model → Sample → Outcome (List ℕ)
 sampleSent m x = refuseIf (not (sendsSamples (m .state) (m .stable))) (numberOf NoSampleSent) (bytesOfSample x)
 
 -- a setting of 2 or more is refused
-unfoldable pub withHealth : Model → ℕ → ℕ → Outcome Model
-withHealth m status error =
-    refuseIf (ltb 1 status) (numberOf NotAReply) (gives (record { state = m .state; stable = m .stable; warning = eqb status 1; error = error }))
+unfoldable pub setting : ℕ → Outcome (Unit {0})
+setting status = refuseIf (ltb 1 status) (numberOf NotAReply) (gives tt)
 
--- what the code's answer means
-unfoldable pub healthIsSet : HealthSet → Outcome Model
-healthIsSet (healthSet.Gives m) = gives m
-healthIsSet (healthSet.Refused q) = refuses (numberOf q)
+-- the model with the status, 0 or 1, and the error code that the bench set
+unfoldable pub withHealth : Model → ℕ → ℕ → Model
+withHealth m status error = record { state = m .state; stable = m .stable; warning = eqb status 1; error = error; info = m .info }

@@ -1,4 +1,5 @@
 // The bench model of the scanner: idle, scanning or in protection stop, asked by requests and for samples, and set by the bench.
+use paper::refusal::Answer;
 use paper::refusal::Refusal;
 use paper::refusal::Written;
 use paper::write;
@@ -37,37 +38,43 @@ pub struct Model {
 
     // The error code.
     pub error: u16,
+
+    // The info that the bench gave at the start.
+    pub info: Info,
 }
 
+// The model behind a request, and the count of bytes sent; where it is refused, the model as it was.
 pub struct Asked {
     pub model: Model,
     pub answer: Written,
 }
 
-pub enum HealthSet {
-    Gives(Model),
-    Refused(Refusal),
+// The model behind a setting; where it is refused, the model as it was.
+pub struct HealthSet {
+    pub model: Model,
+    pub answer: Answer,
 }
 
 impl Model {
-    pub fn new() -> Model
-        ensures { λ r. ⌜ FreshModel r ⌝ }
+    pub fn new(info: Info) -> Model
+        ensures { λ r. ⌜ FreshModel info r ⌝ }
     {
         Model {
             state: State::Idle,
             stable: false,
             warning: false,
             error: 0,
+            info,
         }
     }
 
-    // What the model sends on a request, with the info that the bench gave at the start; a refused request leaves the model as it was.
-    pub fn request(self, info: Info, request: Request, out: &mut [u8]) -> Asked
-        ensures { λ r. ⌜ Asking self info request (now (out .entry)) r (now (out .exit)) ⌝ }
+    // What the model sends on a request.
+    pub fn request(self, request: Request, out: &mut [u8]) -> Asked
+        ensures { λ r. ⌜ Asking self request (now (out .entry)) r (now (out .exit)) ⌝ }
     {
         let kind = request.kind();
         let state = self.state;
-        let answer = send(self, info, kind, out);
+        let answer = send(self, kind, out);
         match answer {
             Written::Bytes(_) => Asked {
                 model: go(self, after(state, kind)),
@@ -100,11 +107,13 @@ impl Model {
         ensures { λ r. ⌜ MotorSet self stable r ⌝ }
     {
         let state = self.state;
+        let info = self.info;
         Model {
             state,
             stable,
             warning: self.warning,
             error: self.error,
+            info,
         }
     }
 
@@ -112,11 +121,13 @@ impl Model {
         ensures { λ r. ⌜ ErrorSet self error r ⌝ }
     {
         let state = self.state;
+        let info = self.info;
         Model {
             state,
             stable: self.stable,
             warning: self.warning,
             error,
+            info,
         }
     }
 
@@ -127,20 +138,28 @@ impl Model {
         Model::set_health(self, status, self.error)
     }
 
-    // Status and error code together; a refused setting leaves both.
+    // Status and error code together.
     pub fn set_health(self, status: u8, error: u16) -> HealthSet
         ensures { λ r. ⌜ HealthSetting self status error r ⌝ }
     {
         if 1 < status {
-            return HealthSet::Refused(Refusal::NotAReply);
+            return HealthSet {
+                model: self,
+                answer: Answer::Refused(Refusal::NotAReply),
+            };
         }
         let state = self.state;
-        HealthSet::Gives(Model {
-            state,
-            stable: self.stable,
-            warning: status == 1,
-            error,
-        })
+        let info = self.info;
+        HealthSet {
+            model: Model {
+                state,
+                stable: self.stable,
+                warning: status == 1,
+                error,
+                info,
+            },
+            answer: Answer::Done,
+        }
     }
 }
 
@@ -148,11 +167,13 @@ impl Model {
 fn go(model: Model, state: State) -> Model
     ensures { λ r. ⌜ InAnother model state r ⌝ }
 {
+    let info = model.info;
     Model {
         state,
         stable: model.stable,
         warning: model.warning,
         error: model.error,
+        info,
     }
 }
 
@@ -194,8 +215,8 @@ fn sends_samples(state: State, stable: bool) -> bool
 }
 
 // What a request has the model send.
-fn send(model: Model, info: Info, kind: Kind, out: &mut [u8]) -> Written
-    ensures { λ r. ⌜ Writes (sent model info kind) (now (out .entry)) r (now (out .exit)) ⌝ }
+fn send(model: Model, kind: Kind, out: &mut [u8]) -> Written
+    ensures { λ r. ⌜ Writes (sent model kind) (now (out .entry)) r (now (out .exit)) ⌝ }
 {
     let state = model.state;
     match kind {
@@ -203,7 +224,7 @@ fn send(model: Model, info: Info, kind: Kind, out: &mut [u8]) -> Written
         Kind::Reset => Written::Bytes(0),
         Kind::Scan => send_scan(state, out),
         Kind::ForceScan => send_scan(state, out),
-        Kind::GetInfo => send_info(info, out),
+        Kind::GetInfo => send_info(model.info, out),
         Kind::GetHealth => send_health(model, out),
         Kind::Other => Written::Refused(Refusal::CodeNotPermitted),
     }

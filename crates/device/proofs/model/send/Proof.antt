@@ -41,43 +41,43 @@ enum-told-7 c = search needs
 
 returns : tie.Need-returns
 unfolding sent
-returns c = sent-as _ _ (c .enum-told .given .1) (wrote-nothing _)
+returns c = sent-as _ (c .enum-told .given .1) (wrote-nothing _)
 
 returns-2 : tie.Need-returns-2
 unfolding sent
-returns-2 c = sent-as _ _ (c .enum-told2 .given .1) (wrote-nothing _)
+returns-2 c = sent-as _ (c .enum-told2 .given .1) (wrote-nothing _)
 
 same-length : tie.Need-same-length
 same-length c = search needs
 
 returns-3 : tie.Need-returns-3
 unfolding sent
-returns-3 c = sent-as _ _ (c .before .before .before .before .enum-told3 .given .1) (c .before .before .send-scan .ensures)
+returns-3 c = sent-as _ (c .before .before .before .before .enum-told3 .given .1) (c .before .before .send-scan .ensures)
 
 same-length-2 : tie.Need-same-length-2
 same-length-2 c = search needs
 
 returns-4 : tie.Need-returns-4
 unfolding sent
-returns-4 c = sent-as _ _ (c .before .before .before .before .enum-told4 .given .1) (c .before .before .send-scan2 .ensures)
+returns-4 c = sent-as _ (c .before .before .before .before .enum-told4 .given .1) (c .before .before .send-scan2 .ensures)
 
 same-length-3 : tie.Need-same-length-3
 same-length-3 c = search needs
 
 returns-5 : tie.Need-returns-5
 unfolding sent
-returns-5 c = sent-as _ _ (c .before .before .before .before .enum-told5 .given .1) (c .before .before .send-info .ensures)
+returns-5 c = sent-as _ (c .before .before .before .before .enum-told5 .given .1) (c .before .before .send-info .ensures)
 
 same-length-4 : tie.Need-same-length-4
 same-length-4 c = search needs
 
 returns-6 : tie.Need-returns-6
 unfolding sent
-returns-6 c = sent-as _ _ (c .before .before .before .before .enum-told6 .given .1) (c .before .before .send-health .ensures)
+returns-6 c = sent-as _ (c .before .before .before .before .enum-told6 .given .1) (c .before .before .send-health .ensures)
 
 returns-7 : tie.Need-returns-7
 unfolding sent
-returns-7 c = sent-as _ _ (c .enum-told7 .given .1) (writes-refused _ _)
+returns-7 c = sent-as _ (c .enum-told7 .given .1) (writes-refused _ _)
 
 pub send-spec : {M : Type 1} → statement M
 send-spec =

@@ -27,14 +27,14 @@ same-length c = search needs
 
 returns : tie.Need-returns
 returns c = let d = c .before .before .before .before .before .before in
-    asking-done _ _ _ _ _ _ _ (d .before .before .kind .ensures .answer) (d .send .ensures) _ _ _ (c .before .before .enum-told .given .1) (c .before .after .ensures) (c .go .ensures)
+    asking-done _ _ _ _ _ _ (d .before .before .kind .ensures .answer) (d .send .ensures) _ _ _ (c .before .before .enum-told .given .1) (c .before .after .ensures) (c .go .ensures)
 
 same-length-2 : tie.Need-same-length-2
 same-length-2 c = search needs
 
 returns-2 : tie.Need-returns-2
 returns-2 c = let d = c .before .before .before .before in
-    asking-refused _ _ _ _ _ _ _ (d .before .before .kind .ensures .answer) (d .send .ensures) _ (c .enum-told2 .given .1)
+    asking-refused _ _ _ _ _ _ (d .before .before .kind .ensures .answer) (d .send .ensures) _ (c .enum-told2 .given .1)
 
 pub request-spec : {M : Type 1} → statement M
 request-spec =
