@@ -3,4 +3,5 @@ pub mod Collected
 pub mod WritesBack
 pub mod Models
 pub mod ReadBack
+pub mod InfoKept
 pub mod Determined
