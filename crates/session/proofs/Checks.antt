@@ -102,7 +102,7 @@ unfolding mapped ifGiven
 refused-other f (gives a) g other e = absurd (gives-refuses (sym e))
 refused-other f (refuses n) g other e = refl
 
-given-one : {A B : Type 0} (f : A → ℕ) (o : Outcome A) (b other : B) {n : ℕ} → gives n ≡ mapped f o → b ≡ ifGiven o (λ _. b) other
+pub given-one : {A B : Type 0} (f : A → ℕ) (o : Outcome A) (b other : B) {n : ℕ} → gives n ≡ mapped f o → b ≡ ifGiven o (λ _. b) other
 unfolding mapped ifGiven
 given-one f (gives a) b other e = refl
 given-one f (refuses n) b other e = absurd (gives-refuses e)

@@ -224,6 +224,48 @@ module _ {s : Reader} {input was row : List ℕ} {r : Reading} (h : Reads s inpu
   unfolding EndSays
   stop-reply e = subst (λ (z : Stop). EndSays z) e (end-says (began (s .phase) refl))
 
+  o-reply : (p : Phase) → s .phase ≡ p → o p .reply ≡ replyFor (called s input was .stop)
+  unfolding account
+  o-reply p e = ap (λ (x : Phase). o x .reply) (sym e) ∙ ap (λ (x : Account). x .reply) (whole s input was)
+
+  -- the bytes of a reply are as many as its phase looks at together
+  pub record ReplyBytes : Type 0 where
+    pub there : width (s .phase) ≤ length (heldOf s ++ input)
+    pub bytes : replyFor (called s input was .stop) ≡ take (width (s .phase)) (heldOf s ++ input)
+
+  unfoldable BytesSaid : Stop → Type 0
+  BytesSaid AllTaken = Unit {0}
+  BytesSaid NoRoom = Unit {0}
+  BytesSaid Descriptor = Unit {0}
+  BytesSaid Reply = ReplyBytes
+  BytesSaid BadHealth = Unit {0}
+
+  quiet-bytes : (x : Stop) → quiet x ≡ true → BytesSaid x
+  unfolding quiet BytesSaid
+  quiet-bytes AllTaken e = tt
+  quiet-bytes NoRoom e = tt
+  quiet-bytes Descriptor e = tt
+  quiet-bytes Reply e = let x : _≡_ {A = ℕ} 0 1 = cc in absurd (omega arith)
+  quiet-bytes BadHealth e = tt
+
+  bytes-as : {x : Stop} (p : Phase) → s .phase ≡ p → o p .stop ≡ x → BytesSaid x → BytesSaid (r .stop)
+  bytes-as p e f y = subst (λ (z : Stop). BytesSaid z) (sym f ∙ o-stop p e) y
+
+  bytes-say : Began → BytesSaid (r .stop)
+  unfolding BytesSaid
+  bytes-say (quietly e) = quiet-bytes (r .stop) e
+  bytes-say (sought {p = p} e z (unfound g)) = bytes-as p e g tt
+  bytes-say (sought {p = p} e z (foundAt n g i j k)) = bytes-as p e j tt
+  bytes-say (awaited {p = p} e z (waiting g)) = bytes-as p e g tt
+  bytes-say (awaited {p} {need} e z (readIt b l i j k)) =
+      let w : width (s .phase) ≡ need = ap width e ∙ z .wide in
+      bytes-as p e j (record { there = omega (arith, l, w); bytes = sym (o-reply p e) ∙ k ∙ ap (λ (n : ℕ). take n (heldOf s ++ input)) (sym w) })
+  bytes-say (awaited {p = p} e z (unreadIt b l i j)) = bytes-as p e j tt
+
+  pub stop-reply-bytes : r .stop ≡ Reply → ReplyBytes
+  unfolding BytesSaid
+  stop-reply-bytes e = subst (λ (z : Stop). BytesSaid z) e (bytes-say (began (s .phase) refl))
+
   -- STOP 4
   pub stop-bad-health : r .stop ≡ BadHealth → AfterReply s input r true
   unfolding EndSays

@@ -1,0 +1,4 @@
+-- Laws of the host.
+pub mod Noted
+pub mod Answers
+pub mod Determined
