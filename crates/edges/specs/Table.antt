@@ -36,7 +36,7 @@ ofScan s = s .skipped ∷ length (s .samples) ∷ []
 unfoldable pub ringAt : ℕ → List ℕ
 ringAt h = h ∷ replicate 49152 0
 
--- the head once a record is added, and the slot of the oldest turn then
+-- the head after the last store of adding, and the slot of the oldest turn then
 unfoldable pub added : ℕ → List ℕ
 added h = headOf (store slots (ringAt h) [] 754) ∷ slotOf slots (headOf (store slots (ringAt h) [] 754)) 0 ∷ []
 

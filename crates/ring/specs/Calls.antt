@@ -25,7 +25,7 @@ Led S was [] is = is ≡ was
 Led S was (attempt rec n ∷ l) is = (mid : List ℕ) × Stored S was rec n mid × Led S mid l is
 Led S was (erasure ∷ l) is = (mid : List ℕ) × (r : Answer) × EraseGiven S was r mid × Led S mid l is
 
--- "attempts, each a record and a number of stores made from 0 to 755, and erasures"
+-- attempts, each of a record that reads, with its first n stores made, n from 0 to 755; and erasures
 unfoldable pub Proper : List Event → Type 0
 Proper [] = Unit {0}
 Proper (attempt rec n ∷ l) = (reads rec ≡ true) × (n ≤ 755) × Proper l

@@ -15,7 +15,7 @@ pub data Event : Type 0 where
   attempt : List ℕ → ℕ → Event
   erasure : Event
 
--- the memory after a history; it is the only state, so a restart may stand between any two events
+-- the memory after a history; it is the only state, so a restart may stand between any two stores
 unfoldable pub after : ℕ → List ℕ → List Event → List ℕ
 after S mem [] = mem
 after S mem (attempt rec n ∷ l) = after S (stores S mem rec n) l

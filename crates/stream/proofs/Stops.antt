@@ -1,5 +1,4 @@
--- What each stop says of a call that the promise allows: `stop-all` (0), `stop-room` (1), `stop-descriptor` (2), `stop-reply` (3) and
--- `stop-bad-health` (4): the last three come right after what they name.
+-- What stops 0 and 1 say of a call that the promise allows: `stop-all` and `stop-room`. The others are in RightAfter.antt.
 use mathlib.Core.Path.{_≡_, refl, sym, ap, _∙_}
 use mathlib.Core.Bool.{Bool, true, false, cond}
 use mathlib.Core.List.{List, [], _∷_, _++_, flatMap}
