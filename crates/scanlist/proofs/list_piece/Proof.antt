@@ -1,0 +1,106 @@
+-- `scanlist::list_piece` is safe and ends.
+use Prim.Native.Nat.{ℕ, _+_, _≤_, _-_}
+use mathlib.Core.Path.{_≡_, sym, ap, _∙_}
+use mathlib.Core.List.{List}
+use native.Mathlib.Omega.{arith}
+use lib.ListN.{length, take, drop, length-drop}
+use lib.Seq.{length-take-le}
+use Rattle.paper.proofs.Writing.{length-over}
+use Rattle.stream.specs.Promises.{Reads}
+use Rattle.stream.specs.declared.Reader.{Reader}
+use Rattle.stream.specs.declared.Reading.{Reading}
+use Rattle.stream.proofs.GoesOn.{taken-within, words-within}
+use borrow.Author.Needs.{needs}
+use Rattle.scanlist.proofs.list_piece.Statement.{statement}
+use Rattle.scanlist.proofs.list_piece.Tie as tie
+
+-- a call takes no more than what is left
+within : {s : Reader} {was row : List ℕ} {r : Reading} (input : List ℕ) (at : ℕ) → at ≤ length input → Reads s (take (length input - at) (drop at input)) was r row → at + r .taken ≤ length input
+within input at l h = omega (arith, taken-within h, length-take-le (length input - at) (drop at input) (omega (arith, length-drop at input)))
+
+-- the row keeps its length
+row-size : {s : Reader} {input was row : List ℕ} {r : Reading} → Reads s input was r row → length row ≡ length was
+row-size {s} {input} {was} h = ap length (h .row) ∙ length-over _ was (rw (h .words) at (words-within h))
+
+abbrev Inv-loop : tie.InvT-loop
+Inv-loop input words₀ next₀ at₀ words next at = (at ≤ length input) × (length words ≡ length words₀)
+
+abbrev μ-loop : tie.MeasureT-loop
+μ-loop input words₀ next₀ at₀ words next at = length input - at
+
+loop-holds : tie.Need-loop-holds Inv-loop μ-loop
+loop-holds c = search needs
+
+sub-read : tie.Need-sub-read Inv-loop μ-loop
+sub-read c = search needs
+
+part-read-start : tie.Need-part-read-start Inv-loop μ-loop
+part-read-start c = search needs
+
+part-read-end : tie.Need-part-read-end Inv-loop μ-loop
+part-read-end c = search needs
+
+read-requires : tie.Need-read-requires Inv-loop μ-loop
+read-requires c κs = search needs
+
+slice-reshare-prefix-row : tie.Need-slice-reshare-prefix-row Inv-loop μ-loop
+slice-reshare-prefix-row c = let r = c .before .before .read .ensures in omega (arith, words-within r, row-size r)
+
+slice-aggregate-row : tie.Need-slice-aggregate-row Inv-loop μ-loop
+slice-aggregate-row c = let r = c .before .before .before .read .ensures in sym (length-take-le _ _ (omega (arith, words-within r, row-size r)))
+
+row-requires : tie.Need-row-requires Inv-loop μ-loop
+row-requires c κs = search needs
+
+stop-requires : tie.Need-stop-requires Inv-loop μ-loop
+stop-requires c κs = search needs
+
+same-length : tie.Need-same-length Inv-loop μ-loop
+same-length c = search needs
+
+returns : tie.Need-returns Inv-loop μ-loop
+returns c = search needs
+
+add-at : tie.Need-add-at Inv-loop μ-loop
+add-at c = let loop = c .before .before .before .before .before .before .before .before .before .before .before .before .before .before .before in
+    let start = loop .before .before .before in
+    let r = c .before .before .before .before .before .before .before .before .before .before .before .read .ensures in
+    omega (arith, start .good .1 .0 .0, within (start .args .input .now) (loop .loop .at) (loop .loop .inv .0) r)
+
+loop-less : tie.Need-loop-less Inv-loop μ-loop
+loop-less c = search needs
+
+loop-again : tie.Need-loop-again Inv-loop μ-loop
+loop-again c = let loop = c .before .before .before .before .before .before .before .before .before .before .before .before .before .before .before in
+    let start = loop .before .before .before in
+    let r = c .before .before .before .before .before .before .before .before .before .before .before .read .ensures in
+    (omega (arith, within (start .args .input .now) (loop .loop .at) (loop .loop .inv .0) r), row-size r ∙ loop .loop .inv .1)
+
+same-length-2 : tie.Need-same-length-2 Inv-loop μ-loop
+same-length-2 c = search needs
+
+returns-2 : tie.Need-returns-2 Inv-loop μ-loop
+returns-2 c = search needs
+
+pub list-piece-spec : {M : Type 1} → statement M
+list-piece-spec =
+    tie.close
+    (tie.spec
+    Inv-loop
+    μ-loop
+    loop-holds
+    sub-read
+    part-read-start
+    part-read-end
+    read-requires
+    slice-reshare-prefix-row
+    slice-aggregate-row
+    row-requires
+    stop-requires
+    same-length
+    returns
+    add-at
+    loop-less
+    loop-again
+    same-length-2
+    returns-2)

@@ -1,0 +1,146 @@
+// Lists what the reader gives of the response bytes on standard input: scanlist CODE [CUT [ROOM]]. The reader is told the request CODE, is
+// handed pieces of CUT bytes and is lent ROOM words; neither of the two changes what is printed.
+mod argument;
+mod show;
+
+use argument::Code;
+use libc::STDERR_FILENO;
+use libc::STDIN_FILENO;
+use paper::refusal::Answer;
+use stream::Reader;
+use wire::request::Request;
+ghost use mathlib.Core.Path.{_≡_};
+ghost use Prim.Native.Nat.{_≤_};
+ghost use lib.ListN.{length};
+ghost use Rattle.io.specs.Counts.{Counts};
+
+const CUT: usize = 4096;
+
+const ROOM: usize = 3072;
+
+// The largest that are taken, and so the buffers.
+const MOST_CUT: usize = 65536;
+
+const MOST_ROOM: usize = 24576;
+
+// One read of standard input: how many bytes came, none where the input ends or cannot be read, which is said.
+fn receive(part: &mut [u8]) -> usize
+    ensures { λ r. ⌜ r ≤ length (now (part .exit)) ⌝ }
+{
+    let got = libc::read(STDIN_FILENO, part);
+    if got < 0 {
+        os::fail(b"scanlist: standard input");
+        return 0;
+    }
+    io::count(got, part)
+}
+
+// Fills a piece from standard input: how many bytes there were, fewer than its length where the input ends.
+fn fill(piece: &mut [u8]) -> usize
+    ensures { λ r. ⌜ Counts r (now (piece .exit)) ⌝ }
+{
+    let mut n: usize = 0;
+    while n < piece.len() {
+        let got = receive(&mut piece[n..]);
+        if got == 0 {
+            return n;
+        }
+        n += got;
+    }
+    n
+}
+
+// Reads one piece to its end, and prints what is given.
+fn list_piece(reader: Reader, input: &[u8], words: &mut [u16]) -> Reader {
+    let mut next = reader;
+    let mut at: usize = 0;
+    while at < input.len() {
+        let phase = next.phase;
+        let r = next.read(&input[at..], words);
+        let n = r.words;
+        show::row(&words[..n]);
+        let stop = r.stop;
+        let reply = r.reply;
+        show::stop(phase, stop, &reply);
+        next = r.reader;
+        if r.taken == 0 {
+            return next;
+        }
+        at += r.taken;
+    }
+    next
+}
+
+// Reads the whole input, piece by piece, and ends with the last line. A proved loop has to end, and nothing says that an input does: so it
+// counts down from more bytes than there ever are.
+fn list(reader: Reader, piece: &mut [u8], words: &mut [u16])
+    requires { ⌜ 1 ≤ length (now piece) ⌝ }
+    requires { ⌜ length (now piece) ≤ 65536 ⌝ }
+{
+    let mut next = reader;
+    let mut left = u64::MAX;
+    while left >= 65536 {
+        let n = fill(piece);
+        next = list_piece(next, &piece[..n], words);
+        left -= n as u64;
+        if n < piece.len() {
+            show::end(next, u64::MAX - left);
+            return;
+        }
+    }
+}
+
+// The same with the buffers' fronts.
+fn list_by(reader: Reader, buffer: &mut [u8], cut: usize, words: &mut [u16], room: usize)
+    requires { ⌜ (1 ≤ cut) × (cut ≤ 65536) ⌝ }
+    requires { ⌜ cut ≤ length (now buffer) ⌝ }
+    requires { ⌜ room ≤ length (now words) ⌝ }
+{
+    list(reader, &mut buffer[..cut], &mut words[..room]);
+}
+
+fn run(code: u8, cut: usize, room: usize)
+    requires { ⌜ (1 ≤ cut) × (cut ≤ 65536) ⌝ }
+    requires { ⌜ room ≤ 24576 ⌝ }
+{
+    let told = Reader::new().tell(Request(code));
+    let answer = told.answer;
+    if let Answer::Refused(r) = answer {
+        show::refused(r.number());
+        return;
+    }
+    let reader = told.reader;
+    let mut input = [0u8; MOST_CUT];
+    let mut words = [0u16; MOST_ROOM];
+    list_by(reader, &mut input, cut, &mut words, room);
+}
+
+fn usage() {
+    io::write_all(
+        STDERR_FILENO,
+        b"scanlist CODE [CUT [ROOM]]: a code of two hex digits, 1 to 65536 bytes, 3 to 24576 words\n",
+    );
+}
+
+fn main() {
+    let code = argument::code_of(1);
+    let cut = argument::number(2, 1, MOST_CUT, CUT);
+    let room = argument::number(3, 3, MOST_ROOM, ROOM);
+    let Code::Byte(b) = code else {
+        usage();
+        return;
+    };
+    if cut == 0 {
+        usage();
+        return;
+    }
+    if room == 0 {
+        usage();
+        return;
+    }
+    if os::arg_count() > 4 {
+        usage();
+        return;
+    }
+    run(b, cut, room);
+}
