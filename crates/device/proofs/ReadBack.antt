@@ -31,13 +31,13 @@ use Rattle.device.specs.declared.model.Model.{Model}
 use Rattle.device.specs.declared.model.Asked.{Asked}
 
 -- what stands at the front of the output, where n bytes were written
-record Front (o : Outcome (List ℕ)) (n : ℕ) (is : List ℕ) : Type 0 where
-  bytes : List ℕ
-  given : o ≡ gives bytes
-  front : take n is ≡ bytes
+pub record Front (o : Outcome (List ℕ)) (n : ℕ) (is : List ℕ) : Type 0 where
+  pub bytes : List ℕ
+  pub given : o ≡ gives bytes
+  pub front : take n is ≡ bytes
 
 -- a writer that wrote n bytes gave them, and they stand at the front
-written-front : (o : Outcome (List ℕ)) (was is : List ℕ) (n : ℕ) → Writes o was (writing.Bytes n) is → Front o n is
+pub written-front : (o : Outcome (List ℕ)) (was is : List ℕ) (n : ℕ) → Writes o was (writing.Bytes n) is → Front o n is
 unfolding written fitting mapped ifGiven over
 written-front (refuses m) was is n w = absurd (gives-refuses (w .answer))
 written-front (gives xs) was is n w = go (ltb (length was) (length xs)) refl

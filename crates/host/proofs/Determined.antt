@@ -66,7 +66,7 @@ none-some e = let z : _≡_ {A = ℕ} 0 1 = cc in omega arith
 some-one : {m n : ℕ} → _≡_ {A = Option ℕ} (some m) (some n) → m ≡ n
 some-one e = cc
 
-told-one : (a b : Told) → toldOf a ≡ toldOf b → a ≡ b
+pub told-one : (a b : Told) → toldOf a ≡ toldOf b → a ≡ b
 unfolding toldOf
 told-one told.Taken told.Taken e = refl
 told-one told.Taken (told.Closed n) e = absurd (none-some (gives-one e))
