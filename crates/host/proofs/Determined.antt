@@ -1,4 +1,4 @@
--- Two answers that a promise allows are equal: `made-determined`, `asks-determined`, `hears-determined`, `turns-determined`.
+-- Two answers that a promise allows are equal: `made-determined`, `asks-determined`, `hears-determined`, `turns-determined`, `number-determined`.
 use Prim.Native.Nat.{ℕ}
 use mathlib.Core.Path.{_≡_, refl, sym, ap, _∙_}
 use mathlib.Core.Option.{Option, none, some}
@@ -14,8 +14,10 @@ use Rattle.stream.specs.declared.Reader.{Reader}
 use Rattle.stream.specs.declared.Reading.{Reading}
 use Rattle.stream.proofs.Determined.{reads-determined}
 use Rattle.turn.specs.declared.gather.Gatherer.{Gatherer}
+use Rattle.record.specs.declared.read.NumberRead.{NumberRead}
+use Rattle.record.proofs.Answers.{number-read-one}
 use Rattle.host.specs.Host.{readingOf, toldOf}
-use Rattle.host.specs.Promises.{Made, Asks, Hears, Turns}
+use Rattle.host.specs.Promises.{Made, Asks, Hears, Turns, NumberNext}
 use Rattle.host.specs.declared.Host.{Host}
 use Rattle.host.specs.declared.Asked.{Asked}
 use Rattle.host.specs.declared.Heard.{Heard}
@@ -89,3 +91,6 @@ turns-determined {r = r} {s = s} p q =
       c,
       p .ready ∙ sym (rw (sym c) at (q .ready)),
     )
+
+pub number-determined : {S : ℕ} {mem : List ℕ} {r s : NumberRead} → NumberNext S mem r → NumberNext S mem s → r ≡ s
+number-determined {r = r} {s = s} p q = number-read-one r s (p .answer ∙ sym (q .answer))

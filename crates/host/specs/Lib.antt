@@ -1,3 +1,4 @@
 pub mod Host
+pub mod Number
 pub mod Promises
 pub mod inner

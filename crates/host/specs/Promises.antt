@@ -11,6 +11,9 @@ use Rattle.turn.specs.Gather.{rowOf}
 use Rattle.turn.specs.Promises.{gathering}
 use Rattle.wire.specs.declared.request.Request.{Request}
 use Rattle.wire.specs.declared.sample.Sample.{Sample}
+use Rattle.record.specs.Answers.{numberRead}
+use Rattle.record.specs.declared.read.NumberRead.{NumberRead}
+use Rattle.host.specs.Number.{nextNumber}
 use Rattle.host.specs.Host.{fresh, asked, waited, kept, through, readingOf, gathered, ready, toldOf}
 use Rattle.host.specs.declared.Host.{Host}
 use Rattle.host.specs.declared.Asked.{Asked}
@@ -41,3 +44,7 @@ pub record Turns (h : Host) (row : List ℕ) (number : ℕ) (filling closed rec 
   pub filled : filling' ≡ ifGiven (rowOf row) (λ (ms : List Sample). gathering (h .gatherer) filling closed ms .held .filling) filling
   pub shown : closed' ≡ ifGiven (rowOf row) (λ (ms : List Sample). gathering (h .gatherer) filling closed ms .held .closed) closed
   pub ready : rec' ≡ ifGiven (rowOf row) (λ (ms : List Sample). ready h number rec (gathering (h .gatherer) filling closed ms .turn) closed') rec
+
+-- `next_number`: of a ring of S slots
+pub record NumberNext (S : ℕ) (mem : List ℕ) (r : NumberRead) : Type 0 where
+  pub answer : numberRead r ≡ nextNumber S mem

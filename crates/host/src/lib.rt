@@ -1,5 +1,6 @@
 // The recorder's core: session, reader and gatherer joined in one value, so that a request tells all of them, and the serial for the records.
 mod note;
+pub mod number;
 mod ready;
 
 use note::kept;
