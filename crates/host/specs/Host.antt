@@ -44,7 +44,7 @@ asked h time q = record {
   serial = h .serial;
 }
 
--- the end of a reply ends the wait, also where the reply does not read
+-- the end of a reply ends the awaiting, also where the reply does not read
 unfoldable pub waited : Session → Thing → Session
 waited s headed = s
 waited s (replied w) = session.ended s

@@ -98,7 +98,7 @@ impl Host {
         }
     }
 
-    // Bytes from the scanner; the end of a reply ends the wait, and the serial of an info reply is kept.
+    // Bytes from the scanner; the end of a reply ends the awaiting, and the serial of an info reply is kept.
     pub fn read(self, input: &[u8], words: &mut [u16]) -> Heard
         ensures { λ r. ⌜ Hears self (now (input .entry)) (now (words .entry)) r (now (words .exit)) ⌝ }
     {

@@ -10,7 +10,7 @@ use Rattle.stream.specs.declared.Phase.the-variants.{Idle, SeekInfo, SeekHealth
 use Rattle.stream.specs.declared.Stop.{Stop}
 use Rattle.stream.specs.declared.Stop.the-variants.{AllTaken, NoRoom, Descriptor, Reply, BadHealth}
 
--- a reply ends the wait, also one that does not read
+-- a reply ends the awaiting, also one that does not read
 unfoldable pub waitedAt : Stop → Session → Session
 waitedAt AllTaken s = s
 waitedAt NoRoom s = s
