@@ -1,0 +1,7 @@
+// The C interface: each function calls the library's, and hands over the C form of an answer that the library's promise allows.
+mod answer;
+pub mod reader;
+pub mod records;
+pub mod rings;
+mod sample;
+pub mod turns;

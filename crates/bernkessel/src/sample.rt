@@ -1,0 +1,38 @@
+// The C form of a sample and of its units.
+use paper::unit::AngleQ6;
+use paper::unit::DistanceQ2;
+use wire::sample::Sample;
+ghost use mathlib.Core.Path.{_≡_};
+ghost use Rattle.bernkessel.specs.Sample.{sampleIn};
+
+// In 64ths of a degree.
+#[repr(C)]
+pub struct BkAngleQ6 {
+    pub q6: u16,
+}
+
+// In quarters of a millimetre.
+#[repr(C)]
+pub struct BkDistanceQ2 {
+    pub q2: u16,
+}
+
+// S is 0 where the byte `start` is 0, and otherwise 1.
+#[repr(C)]
+pub struct BkSample {
+    pub start: u8,
+    pub quality: u8,
+    pub angle: BkAngleQ6,
+    pub distance: BkDistanceQ2,
+}
+
+pub fn sample_in(c: BkSample) -> Sample
+    ensures { λ r. ⌜ r ≡ sampleIn c ⌝ }
+{
+    Sample {
+        start: c.start != 0,
+        quality: c.quality,
+        angle: AngleQ6(c.angle.q6),
+        distance: DistanceQ2(c.distance.q2),
+    }
+}
