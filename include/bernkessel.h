@@ -70,12 +70,32 @@ enum {
     BK_BAD_HEALTH = 4
 };
 
-/* Sizes: of a ring's memory, a record, a turn's cells and serial, a sample's bytes and words; and of an output that no listing is too long for. */
+/* Stages of a collector; any other byte is BK_STAGE_EMPTY. */
+enum {
+    BK_STAGE_EMPTY = 0,
+    BK_STAGE_STARTED = 1,
+    BK_STAGE_CODED = 2,
+    BK_STAGE_SIZED = 3
+};
+
+/* States of the model of the scanner; any other byte is BK_MODEL_IDLE. */
+enum {
+    BK_MODEL_IDLE = 0,
+    BK_MODEL_SCANNING = 1,
+    BK_MODEL_FORCE_SCANNING = 2,
+    BK_MODEL_PROTECTION_STOP = 3
+};
+
+/* Sizes: of a ring's memory, a record, a turn's cells and serial, the largest payload, an info and a health reply, a sample's bytes and
+ * words; and of an output that no listing is too long for. */
 enum {
     BK_RING_BYTES = 49153,
     BK_RECORD_BYTES = 754,
     BK_CELLS = 360,
     BK_SERIAL_BYTES = 16,
+    BK_PAYLOAD_BYTES = 255,
+    BK_INFO_BYTES = 20,
+    BK_HEALTH_BYTES = 3,
     BK_SAMPLE_BYTES = 5,
     BK_SAMPLE_WORDS = 3,
     BK_LISTING_BYTES = 1710
@@ -106,6 +126,190 @@ typedef struct {
     size_t bytes;
     uint8_t refusal;
 } bk_written;
+
+/* ---- codecs: a writer puts bytes at the front of `out`; a reader takes exactly the bytes of one thing, and answers zeros with a refusal */
+
+/* What announces a reply: its length, below 2^30, its mode, 0 or 1, and its type. */
+typedef struct {
+    uint32_t length;
+    uint8_t mode;
+    uint8_t kind;
+} bk_descriptor;
+
+typedef struct {
+    bk_descriptor descriptor;
+    uint8_t refusal;
+} bk_descriptor_answer;
+
+/* The scanner's info: model, minor and major number of the firmware, hardware, serial. */
+typedef struct {
+    uint8_t model;
+    uint8_t minor;
+    uint8_t major;
+    uint8_t hardware;
+    uint8_t serial[16];
+} bk_info;
+
+typedef struct {
+    bk_info info;
+    uint8_t refusal;
+} bk_info_answer;
+
+/* The scanner's health: an error code and a status, 0 to 2. */
+typedef struct {
+    uint16_t error;
+    uint8_t status;
+} bk_health;
+
+typedef struct {
+    bk_health health;
+    uint8_t refusal;
+} bk_health_answer;
+
+typedef struct {
+    bk_sample sample;
+    uint8_t refusal;
+} bk_sample_answer;
+
+/* A request of any code with its payload. Refuses BK_CODE_NOT_PERMITTED for a payload that the code cannot carry, then BK_OUTPUT_SHORT. */
+bk_written bk_request_write(uint8_t code, const uint8_t *payload, size_t payload_len, uint8_t *out, size_t out_len);
+
+/* Refuses BK_NOT_A_DESCRIPTOR for a length or a mode that none has, then BK_OUTPUT_SHORT. */
+bk_written bk_descriptor_write(bk_descriptor descriptor, uint8_t *out, size_t out_len);
+
+/* Refuses BK_NOT_A_DESCRIPTOR. */
+bk_descriptor_answer bk_descriptor_read(const uint8_t *bytes, size_t bytes_len);
+
+/* Refuses BK_OUTPUT_SHORT. */
+bk_written bk_info_write(bk_info info, uint8_t *out, size_t out_len);
+
+/* Refuses BK_NOT_A_REPLY for other than BK_INFO_BYTES. */
+bk_info_answer bk_info_read(const uint8_t *bytes, size_t bytes_len);
+
+/* Refuses BK_NOT_A_REPLY for a status that none has, then BK_OUTPUT_SHORT. */
+bk_written bk_health_write(bk_health health, uint8_t *out, size_t out_len);
+
+/* Refuses BK_NOT_A_REPLY for other than BK_HEALTH_BYTES, or a status that none has. */
+bk_health_answer bk_health_read(const uint8_t *bytes, size_t bytes_len);
+
+/* The five bytes of a sample. Refuses BK_NOT_A_SAMPLE for an angle or a quality that none has, then BK_OUTPUT_SHORT. */
+bk_written bk_sample_write(bk_sample sample, uint8_t *out, size_t out_len);
+
+/* The three words of a sample, as bk_reader_read writes them; the answer counts words. Refuses as bk_sample_write does. */
+bk_written bk_sample_write_words(bk_sample sample, uint16_t *row, size_t row_len);
+
+/* Of exactly BK_SAMPLE_BYTES. Refuses BK_NOT_A_SAMPLE. */
+bk_sample_answer bk_sample_read(const uint8_t *bytes, size_t bytes_len);
+
+/* Of the first BK_SAMPLE_BYTES of what is lent. Refuses BK_NOT_A_SAMPLE. */
+bk_sample_answer bk_sample_front(const uint8_t *part, size_t part_len);
+
+/* Of its three words. Refuses BK_NOT_A_SAMPLE. */
+bk_sample_answer bk_sample_read_words(uint16_t angle, uint16_t distance, uint16_t mark);
+
+/* ---- the session: what a host may send, and when */
+
+/* A session: the time of the last request accepted, how long after it the next one waits, both in milliseconds, and whether a single
+ * reply is awaited: 0 not, any other byte yes. */
+typedef struct {
+    uint64_t last;
+    uint64_t wait;
+    uint8_t awaited;
+} bk_session;
+
+typedef struct {
+    bk_session session;
+    bk_written written;
+} bk_sent;
+
+/* A fresh session: no time accepted, no wait, nothing awaited. */
+bk_session bk_session_new(void);
+
+/* Writes one of the six requests at a time in milliseconds. Refuses BK_TIME_EARLIER, BK_CODE_NOT_PERMITTED (another code, or a payload),
+ * BK_WAIT_NOT_OVER, BK_REPLY_AWAITED, BK_OUTPUT_SHORT, in this order. */
+bk_sent bk_session_send(bk_session session, uint64_t time, uint8_t code, const uint8_t *payload, size_t payload_len, uint8_t *out, size_t out_len);
+
+/* The awaited reply has ended. */
+bk_session bk_session_reply_ended(bk_session session);
+
+/* ---- the bench's side: the collector of requests and the model of the scanner */
+
+/* How much of a packet is there: its stage, and of BK_STAGE_CODED the code, of BK_STAGE_SIZED all fields. A count over the size is read as
+ * the size. */
+typedef struct {
+    uint8_t kind;
+    uint8_t code;
+    uint8_t size;
+    uint8_t count;
+    uint8_t sum;
+} bk_stage;
+
+/* A collector: the packet so far, when it began, and the time of the last byte accepted, in milliseconds. */
+typedef struct {
+    bk_stage stage;
+    uint64_t begun;
+    uint64_t last;
+} bk_collector;
+
+/* The collector after a byte; where `complete` is 1 the byte completed a packet of this code, whose payload is the first `size` bytes of the
+ * memory lent, and where it is 0 it did not. */
+typedef struct {
+    bk_collector collector;
+    uint8_t complete;
+    uint8_t code;
+    uint8_t size;
+    uint8_t refusal;
+} bk_collected;
+
+/* No packet is begun. */
+bk_collector bk_collector_new(void);
+
+/* One byte at a time in milliseconds; lend the same payload memory for all bytes of a packet. Refuses BK_TIME_EARLIER. */
+bk_collected bk_collector_byte(bk_collector collector, uint64_t time, uint8_t b, uint8_t payload[BK_PAYLOAD_BYTES]);
+
+/* The model: the info given at the start, the error code, its state, and whether the motor is stable and whether the status set is 1: 0 not,
+ * any other byte yes. */
+typedef struct {
+    bk_info info;
+    uint16_t error;
+    uint8_t state;
+    uint8_t stable;
+    uint8_t warning;
+} bk_model;
+
+typedef struct {
+    bk_model model;
+    bk_written written;
+} bk_asked;
+
+typedef struct {
+    bk_model model;
+    uint8_t refusal;
+} bk_health_set;
+
+/* An idle scanner with this info. */
+bk_model bk_model_new(bk_info info);
+
+/* Writes what the scanner sends on a request. Refuses BK_CODE_NOT_PERMITTED, then BK_OUTPUT_SHORT. */
+bk_asked bk_model_request(bk_model model, uint8_t code, uint8_t *out, size_t out_len);
+
+/* Writes a sample as the scanner sends it. Refuses BK_NO_SAMPLE_SENT where it sends none, BK_NOT_A_SAMPLE, BK_OUTPUT_SHORT. */
+bk_written bk_model_sample(bk_model model, bk_sample sample, uint8_t *out, size_t out_len);
+
+/* A fault: the scanner goes to protection stop. */
+bk_model bk_model_fault(bk_model model);
+
+/* The motor is stable, or not where the byte is 0. */
+bk_model bk_model_set_motor(bk_model model, uint8_t stable);
+
+/* The error code alone. */
+bk_model bk_model_set_error(bk_model model, uint16_t error);
+
+/* The status alone. Refuses BK_NOT_A_REPLY for a status over 1. */
+bk_health_set bk_model_set_status(bk_model model, uint8_t status);
+
+/* Status and error code together. Refuses as bk_model_set_status does, and then sets neither. */
+bk_health_set bk_model_set_health(bk_model model, uint8_t status, uint16_t error);
 
 /* ---- the reader of the response stream */
 

@@ -3,6 +3,18 @@ use Prim.Native.Nat.{ℕ}
 use mathlib.Core.Path.{_≡_, sym, ap, _∙_}
 use mathlib.Core.List.{List}
 use Rattle.paper.proofs.Determined.{writes-determined}
+use Rattle.wire.proofs.Determined.{descriptor-read-determined, info-read-determined, health-read-determined, sample-read-determined, words-read-determined}
+use Rattle.session.proofs.Determined.{new-determined, send-determined, reply-ended-determined}
+use Rattle.device.proofs.Determined.{
+  collector-new-determined,
+  byte-determined,
+  model-new-determined,
+  request-determined,
+  fault-determined,
+  motor-determined,
+  error-determined,
+  setting-determined,
+}
 use Rattle.stream.proofs.Determined.{made-determined, tells-determined, reads-determined}
 use Rattle.turn.proofs.Determined.{fresh-determined, gathers-determined, row-determined}
 use Rattle.record.proofs.Determined.{check-determined, number-determined, count-determined, cell-determined}
@@ -10,6 +22,30 @@ use Rattle.ring.proofs.Determined.{held-determined, store-determined, add-deter
 use Rattle.listing.proofs.Determined.{list-determined}
 use Rattle.bernkessel.specs.Forms.{Form}
 use Rattle.bernkessel.specs.Promises.{
+  RequestWritten,
+  DescriptorWritten,
+  DescriptorReads,
+  InfoWritten,
+  InfoReads,
+  HealthWritten,
+  HealthReads,
+  SampleWritten,
+  SampleRowWritten,
+  SampleReads,
+  SampleRowReads,
+  SessionBegun,
+  SessionSends,
+  SessionEnded,
+  CollectorFresh,
+  CollectorTakes,
+  ModelFresh,
+  ModelAsks,
+  ModelSends,
+  ModelFaults,
+  ModelMotor,
+  ModelError,
+  ModelStatus,
+  ModelHealth,
   ReaderMade,
   ReaderTells,
   ReaderReads,
@@ -29,6 +65,20 @@ use Rattle.bernkessel.specs.Promises.{
   RingListed,
 }
 use Rattle.bernkessel.specs.declared.answer.BkWritten.{BkWritten}
+use Rattle.bernkessel.specs.declared.codec.BkDescriptor.{BkDescriptor}
+use Rattle.bernkessel.specs.declared.codec.BkDescriptorAnswer.{BkDescriptorAnswer}
+use Rattle.bernkessel.specs.declared.codec.BkSampleAnswer.{BkSampleAnswer}
+use Rattle.bernkessel.specs.declared.replies.BkInfo.{BkInfo}
+use Rattle.bernkessel.specs.declared.replies.BkInfoAnswer.{BkInfoAnswer}
+use Rattle.bernkessel.specs.declared.replies.BkHealth.{BkHealth}
+use Rattle.bernkessel.specs.declared.replies.BkHealthAnswer.{BkHealthAnswer}
+use Rattle.bernkessel.specs.declared.sessions.BkSession.{BkSession}
+use Rattle.bernkessel.specs.declared.sessions.BkSent.{BkSent}
+use Rattle.bernkessel.specs.declared.collector.BkCollector.{BkCollector}
+use Rattle.bernkessel.specs.declared.collector.BkCollected.{BkCollected}
+use Rattle.bernkessel.specs.declared.model.BkModel.{BkModel}
+use Rattle.bernkessel.specs.declared.model.BkAsked.{BkAsked}
+use Rattle.bernkessel.specs.declared.model.BkHealthSet.{BkHealthSet}
 use Rattle.bernkessel.specs.declared.reader.BkReader.{BkReader}
 use Rattle.bernkessel.specs.declared.reader.BkTold.{BkTold}
 use Rattle.bernkessel.specs.declared.reader.BkReading.{BkReading}
@@ -45,6 +95,93 @@ use Rattle.bernkessel.specs.declared.rings.BkHeld.{BkHeld}
 form-one : {A B : Type 0} {P Q : A → Type 0} {out : A → B} {r s : B} (p : Form P out r) (q : Form Q out s) → p .answer ≡ q .answer → r ≡ s
 form-one {out = out} p q e = p .handed ∙ ap out e ∙ sym (q .handed)
 
+-- the same, with what is known of the memory lent
+form-with : {A B X : Type 0} {P Q : A → Type 0} {out : A → B} {r s : B} (p : Form P out r) (q : Form Q out s) → (p .answer ≡ q .answer) × X → (r ≡ s) × X
+form-with p q d = (form-one p q (d .0), d .1)
+
+-- ---- codecs
+
+pub request-write-determined : (code : ℕ) (payload : List ℕ) {was is js : List ℕ} {r s : BkWritten}
+    → RequestWritten code payload was r is → RequestWritten code payload was s js → (r ≡ s) × (is ≡ js)
+request-write-determined code payload p q = form-with p q (writes-determined (p .kept) (q .kept))
+
+pub descriptor-write-determined : (x : BkDescriptor) {was is js : List ℕ} {r s : BkWritten}
+    → DescriptorWritten x was r is → DescriptorWritten x was s js → (r ≡ s) × (is ≡ js)
+descriptor-write-determined x p q = form-with p q (writes-determined (p .kept) (q .kept))
+
+pub descriptor-reads-determined : {xs : List ℕ} {r s : BkDescriptorAnswer} → DescriptorReads xs r → DescriptorReads xs s → r ≡ s
+descriptor-reads-determined p q = form-one p q (descriptor-read-determined (p .kept) (q .kept))
+
+pub info-write-determined : (x : BkInfo) {was is js : List ℕ} {r s : BkWritten} → InfoWritten x was r is → InfoWritten x was s js → (r ≡ s) × (is ≡ js)
+info-write-determined x p q = form-with p q (writes-determined (p .kept) (q .kept))
+
+pub info-reads-determined : {xs : List ℕ} {r s : BkInfoAnswer} → InfoReads xs r → InfoReads xs s → r ≡ s
+info-reads-determined p q = form-one p q (info-read-determined (p .kept) (q .kept))
+
+pub health-write-determined : (x : BkHealth) {was is js : List ℕ} {r s : BkWritten} → HealthWritten x was r is → HealthWritten x was s js → (r ≡ s) × (is ≡ js)
+health-write-determined x p q = form-with p q (writes-determined (p .kept) (q .kept))
+
+pub health-reads-determined : {xs : List ℕ} {r s : BkHealthAnswer} → HealthReads xs r → HealthReads xs s → r ≡ s
+health-reads-determined p q = form-one p q (health-read-determined (p .kept) (q .kept))
+
+pub sample-write-determined : (m : BkSample) {was is js : List ℕ} {r s : BkWritten} → SampleWritten m was r is → SampleWritten m was s js → (r ≡ s) × (is ≡ js)
+sample-write-determined m p q = form-with p q (writes-determined (p .kept) (q .kept))
+
+pub sample-words-determined : (m : BkSample) {was is js : List ℕ} {r s : BkWritten} → SampleRowWritten m was r is → SampleRowWritten m was s js → (r ≡ s) × (is ≡ js)
+sample-words-determined m p q = form-with p q (writes-determined (p .kept) (q .kept))
+
+-- `bk_sample_read`, `bk_sample_front`
+pub sample-reads-determined : {xs : List ℕ} {r s : BkSampleAnswer} → SampleReads xs r → SampleReads xs s → r ≡ s
+sample-reads-determined p q = form-one p q (sample-read-determined (p .kept) (q .kept))
+
+pub sample-row-determined : {ws : List ℕ} {r s : BkSampleAnswer} → SampleRowReads ws r → SampleRowReads ws s → r ≡ s
+sample-row-determined p q = form-one p q (words-read-determined (p .kept) (q .kept))
+
+-- ---- the session
+
+pub session-new-determined : {r s : BkSession} → SessionBegun r → SessionBegun s → r ≡ s
+session-new-determined p q = form-one p q (new-determined (p .kept) (q .kept))
+
+pub session-send-determined : (x : BkSession) {time code : ℕ} {payload was is js : List ℕ} {r s : BkSent}
+    → SessionSends x time code payload was r is → SessionSends x time code payload was s js → (r ≡ s) × (is ≡ js)
+session-send-determined x p q = form-with p q (send-determined (p .kept) (q .kept))
+
+pub session-ended-determined : (x : BkSession) {r s : BkSession} → SessionEnded x r → SessionEnded x s → r ≡ s
+session-ended-determined x p q = form-one p q (reply-ended-determined (p .kept) (q .kept))
+
+-- ---- the bench's side
+
+pub collector-fresh-determined : {r s : BkCollector} → CollectorFresh r → CollectorFresh s → r ≡ s
+collector-fresh-determined p q = form-one p q (collector-new-determined (p .kept) (q .kept))
+
+pub collector-byte-determined : (x : BkCollector) {time b : ℕ} {was is js : List ℕ} {r s : BkCollected}
+    → CollectorTakes x time b was r is → CollectorTakes x time b was s js → (r ≡ s) × (is ≡ js)
+collector-byte-determined x p q = form-with p q (byte-determined (p .kept) (q .kept))
+
+pub model-fresh-determined : (i : BkInfo) {r s : BkModel} → ModelFresh i r → ModelFresh i s → r ≡ s
+model-fresh-determined i p q = form-one p q (model-new-determined (p .kept) (q .kept))
+
+pub model-request-determined : (m : BkModel) {code : ℕ} {was is js : List ℕ} {r s : BkAsked} → ModelAsks m code was r is → ModelAsks m code was s js → (r ≡ s) × (is ≡ js)
+model-request-determined m p q = form-with p q (request-determined (p .kept) (q .kept))
+
+pub model-sample-determined : (m : BkModel) (x : BkSample) {was is js : List ℕ} {r s : BkWritten} → ModelSends m x was r is → ModelSends m x was s js → (r ≡ s) × (is ≡ js)
+model-sample-determined m x p q = form-with p q (writes-determined (p .kept) (q .kept))
+
+pub model-fault-determined : (m : BkModel) {r s : BkModel} → ModelFaults m r → ModelFaults m s → r ≡ s
+model-fault-determined m p q = form-one p q (fault-determined (p .kept) (q .kept))
+
+pub model-motor-determined : (m : BkModel) (stable : ℕ) {r s : BkModel} → ModelMotor m stable r → ModelMotor m stable s → r ≡ s
+model-motor-determined m stable p q = form-one p q (motor-determined (p .kept) (q .kept))
+
+pub model-error-determined : (m : BkModel) {error : ℕ} {r s : BkModel} → ModelError m error r → ModelError m error s → r ≡ s
+model-error-determined m p q = form-one p q (error-determined (p .kept) (q .kept))
+
+pub model-status-determined : (m : BkModel) {status : ℕ} {r s : BkHealthSet} → ModelStatus m status r → ModelStatus m status s → r ≡ s
+model-status-determined m p q = form-one p q (setting-determined (p .kept) (q .kept))
+
+pub model-health-determined : (m : BkModel) {status error : ℕ} {r s : BkHealthSet} → ModelHealth m status error r → ModelHealth m status error s → r ≡ s
+model-health-determined m p q = form-one p q (setting-determined (p .kept) (q .kept))
+
 -- ---- the reader
 
 pub reader-new-determined : {r s : BkReader} → ReaderMade r → ReaderMade s → r ≡ s
@@ -55,7 +192,7 @@ reader-tell-determined reader p q = form-one p q (tells-determined (p .kept) (q 
 
 pub reader-read-determined : (reader : BkReader) {input was is js : List ℕ} {r s : BkReading}
     → ReaderReads reader input was r is → ReaderReads reader input was s js → (r ≡ s) × (is ≡ js)
-reader-read-determined reader p q = let d = reads-determined (p .kept) (q .kept) in (form-one p q (d .0), d .1)
+reader-read-determined reader p q = form-with p q (reads-determined (p .kept) (q .kept))
 
 -- ---- turns
 
@@ -75,7 +212,7 @@ gatherer-row-determined g ws p q = let d = row-determined (p .kept) (q .kept) in
 
 pub record-write-determined : (number count : ℕ) (serial cells : List ℕ) {was is js : List ℕ} {r s : BkWritten}
     → RecordWritten number count serial cells was r is → RecordWritten number count serial cells was s js → (r ≡ s) × (is ≡ js)
-record-write-determined number count serial cells p q = let d = writes-determined (p .kept) (q .kept) in (form-one p q (d .0), d .1)
+record-write-determined number count serial cells p q = form-with p q (writes-determined (p .kept) (q .kept))
 
 pub record-check-determined : {rec : List ℕ} {r s : ℕ} → RecordChecked rec r → RecordChecked rec s → r ≡ s
 record-check-determined p q = form-one p q (check-determined (p .kept) (q .kept))
@@ -95,16 +232,16 @@ pub ring-held-determined : {mem : List ℕ} {r s : BkHeld} → RingHeld mem r �
 ring-held-determined p q = form-one p q (held-determined (p .kept) (q .kept))
 
 pub ring-store-determined : {was rec is js : List ℕ} {k r s : ℕ} → RingStored was rec k r is → RingStored was rec k s js → (r ≡ s) × (is ≡ js)
-ring-store-determined p q = let d = store-determined (p .kept) (q .kept) in (form-one p q (d .0), d .1)
+ring-store-determined p q = form-with p q (store-determined (p .kept) (q .kept))
 
 pub ring-add-determined : {was rec is js : List ℕ} {r s : ℕ} → RingAdded was rec r is → RingAdded was rec s js → (r ≡ s) × (is ≡ js)
-ring-add-determined p q = let d = add-determined (p .kept) (q .kept) in (form-one p q (d .0), d .1)
+ring-add-determined p q = form-with p q (add-determined (p .kept) (q .kept))
 
 pub ring-all-read-determined : {mem : List ℕ} {r s : ℕ} → RingReads mem r → RingReads mem s → r ≡ s
 ring-all-read-determined p q = form-one p q (all-read-determined (p .kept) (q .kept))
 
 pub ring-erase-determined : {was is js : List ℕ} {r s : ℕ} → RingErased was r is → RingErased was s js → (r ≡ s) × (is ≡ js)
-ring-erase-determined p q = let d = erase-determined (p .kept) (q .kept) in (form-one p q (d .0), d .1)
+ring-erase-determined p q = form-with p q (erase-determined (p .kept) (q .kept))
 
 pub ring-list-determined : {mem was is js : List ℕ} {r s : BkWritten} → RingListed mem was r is → RingListed mem was s js → (r ≡ s) × (is ≡ js)
-ring-list-determined p q = let d = list-determined (p .kept) (q .kept) in (form-one p q (d .0), d .1)
+ring-list-determined p q = form-with p q (list-determined (p .kept) (q .kept))

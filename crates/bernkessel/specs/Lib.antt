@@ -1,8 +1,13 @@
 pub mod Answers
+pub mod Codec
+pub mod Collector
 pub mod Forms
+pub mod Model
 pub mod Reader
 pub mod Record
+pub mod Reply
 pub mod Ring
 pub mod Sample
+pub mod Session
 pub mod Turn
 pub mod Promises

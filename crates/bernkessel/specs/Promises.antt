@@ -2,6 +2,15 @@
 use Prim.Native.Nat.{ℕ}
 use mathlib.Core.List.{List}
 use Rattle.paper.specs.Writing.{Writes}
+use Rattle.wire.specs.Request.{requestOf}
+use Rattle.wire.specs.Descriptor.{bytesOfDescriptor}
+use Rattle.wire.specs.Reply.{bytesOfInfo, bytesOfHealth}
+use Rattle.wire.specs.Sample.{bytesOfSample, wordsOfSample}
+use Rattle.wire.specs.Promises.{DescriptorIsRead, InfoIsRead, HealthIsRead, SampleIsRead, WordsAreRead}
+use Rattle.session.specs.Promises.{Begun, RequestSent, ReplyEnded}
+use Rattle.device.specs.Model.{sampleSent}
+use Rattle.device.specs.Promises.{FreshCollector, ByteCollected, FreshModel, Asking, InAnother, MotorSet, ErrorSet, HealthSetting}
+use Rattle.device.specs.declared.model.State.the-variants.{ProtectionStop}
 use Rattle.stream.specs.Promises.{Made, Tells, Reads}
 use Rattle.turn.specs.Gather.{oneOf, rowOf}
 use Rattle.turn.specs.Promises.{Fresh, Gathers, GathersRow}
@@ -11,13 +20,32 @@ use Rattle.ring.specs.Ring.{slots}
 use Rattle.ring.specs.Promises.{HeldGiven, StoreGiven, AddGiven, AllReadGiven, EraseGiven}
 use Rattle.listing.specs.Promises.{ListGiven}
 use Rattle.bernkessel.specs.Forms.{Form}
-use Rattle.bernkessel.specs.Answers.{answerOut, writtenOut}
+use Rattle.bernkessel.specs.Answers.{answerOut, writtenOut, flagIn}
+use Rattle.bernkessel.specs.Codec.{descriptorIn, descriptorOut, sampleReadOut}
+use Rattle.bernkessel.specs.Reply.{infoIn, infoReadOut, healthIn, healthReadOut}
+use Rattle.bernkessel.specs.Session.{sessionIn, sessionOut, sentOut}
+use Rattle.bernkessel.specs.Collector.{collectorIn, collectorOut, collectedOut}
+use Rattle.bernkessel.specs.Model.{modelIn, modelOut, askedOut, healthSetOut}
 use Rattle.bernkessel.specs.Reader.{readerIn, readerOut, toldOut, readingOut}
 use Rattle.bernkessel.specs.Sample.{sampleIn}
 use Rattle.bernkessel.specs.Turn.{gathererIn, gathererOut, gatheredOut, rowOut}
 use Rattle.bernkessel.specs.Record.{numberOut, countOut, cellOut}
 use Rattle.bernkessel.specs.Ring.{heldOut}
 use Rattle.bernkessel.specs.declared.answer.BkWritten.{BkWritten}
+use Rattle.bernkessel.specs.declared.codec.BkDescriptor.{BkDescriptor}
+use Rattle.bernkessel.specs.declared.codec.BkDescriptorAnswer.{BkDescriptorAnswer}
+use Rattle.bernkessel.specs.declared.codec.BkSampleAnswer.{BkSampleAnswer}
+use Rattle.bernkessel.specs.declared.replies.BkInfo.{BkInfo}
+use Rattle.bernkessel.specs.declared.replies.BkInfoAnswer.{BkInfoAnswer}
+use Rattle.bernkessel.specs.declared.replies.BkHealth.{BkHealth}
+use Rattle.bernkessel.specs.declared.replies.BkHealthAnswer.{BkHealthAnswer}
+use Rattle.bernkessel.specs.declared.sessions.BkSession.{BkSession}
+use Rattle.bernkessel.specs.declared.sessions.BkSent.{BkSent}
+use Rattle.bernkessel.specs.declared.collector.BkCollector.{BkCollector}
+use Rattle.bernkessel.specs.declared.collector.BkCollected.{BkCollected}
+use Rattle.bernkessel.specs.declared.model.BkModel.{BkModel}
+use Rattle.bernkessel.specs.declared.model.BkAsked.{BkAsked}
+use Rattle.bernkessel.specs.declared.model.BkHealthSet.{BkHealthSet}
 use Rattle.bernkessel.specs.declared.reader.BkReader.{BkReader}
 use Rattle.bernkessel.specs.declared.reader.BkTold.{BkTold}
 use Rattle.bernkessel.specs.declared.reader.BkReading.{BkReading}
@@ -29,6 +57,108 @@ use Rattle.bernkessel.specs.declared.records.BkNumber.{BkNumber}
 use Rattle.bernkessel.specs.declared.records.BkCount.{BkCount}
 use Rattle.bernkessel.specs.declared.records.BkCell.{BkCell}
 use Rattle.bernkessel.specs.declared.rings.BkHeld.{BkHeld}
+
+-- ---- codecs
+
+-- `bk_request_write`
+abbrev pub RequestWritten : ℕ → List ℕ → List ℕ → BkWritten → List ℕ → Type 0
+RequestWritten code payload was r is = Form (λ a. Writes (requestOf code payload) was a is) writtenOut r
+
+-- `bk_descriptor_write`
+abbrev pub DescriptorWritten : BkDescriptor → List ℕ → BkWritten → List ℕ → Type 0
+DescriptorWritten d was r is = Form (λ a. Writes (bytesOfDescriptor (descriptorIn d)) was a is) writtenOut r
+
+-- `bk_descriptor_read`
+abbrev pub DescriptorReads : List ℕ → BkDescriptorAnswer → Type 0
+DescriptorReads xs r = Form (DescriptorIsRead xs) descriptorOut r
+
+-- `bk_info_write`
+abbrev pub InfoWritten : BkInfo → List ℕ → BkWritten → List ℕ → Type 0
+InfoWritten i was r is = Form (λ a. Writes (bytesOfInfo (infoIn i)) was a is) writtenOut r
+
+-- `bk_info_read`
+abbrev pub InfoReads : List ℕ → BkInfoAnswer → Type 0
+InfoReads xs r = Form (InfoIsRead xs) infoReadOut r
+
+-- `bk_health_write`
+abbrev pub HealthWritten : BkHealth → List ℕ → BkWritten → List ℕ → Type 0
+HealthWritten h was r is = Form (λ a. Writes (bytesOfHealth (healthIn h)) was a is) writtenOut r
+
+-- `bk_health_read`
+abbrev pub HealthReads : List ℕ → BkHealthAnswer → Type 0
+HealthReads xs r = Form (HealthIsRead xs) healthReadOut r
+
+-- `bk_sample_write`
+abbrev pub SampleWritten : BkSample → List ℕ → BkWritten → List ℕ → Type 0
+SampleWritten m was r is = Form (λ a. Writes (bytesOfSample (sampleIn m)) was a is) writtenOut r
+
+-- `bk_sample_write_words`
+abbrev pub SampleRowWritten : BkSample → List ℕ → BkWritten → List ℕ → Type 0
+SampleRowWritten m was r is = Form (λ a. Writes (wordsOfSample (sampleIn m)) was a is) writtenOut r
+
+-- `bk_sample_read`, and `bk_sample_front` of the first five bytes
+abbrev pub SampleReads : List ℕ → BkSampleAnswer → Type 0
+SampleReads xs r = Form (SampleIsRead xs) sampleReadOut r
+
+-- `bk_sample_read_words`
+abbrev pub SampleRowReads : List ℕ → BkSampleAnswer → Type 0
+SampleRowReads ws r = Form (WordsAreRead ws) sampleReadOut r
+
+-- ---- the session
+
+-- `bk_session_new`
+abbrev pub SessionBegun : BkSession → Type 0
+SessionBegun r = Form Begun sessionOut r
+
+-- `bk_session_send`
+abbrev pub SessionSends : BkSession → ℕ → ℕ → List ℕ → List ℕ → BkSent → List ℕ → Type 0
+SessionSends s time code payload was r is = Form (λ a. RequestSent (sessionIn s) time (record { 0 = code }) payload was a is) (sentOut s) r
+
+-- `bk_session_reply_ended`
+abbrev pub SessionEnded : BkSession → BkSession → Type 0
+SessionEnded s r = Form (ReplyEnded (sessionIn s)) sessionOut r
+
+-- ---- the bench's side
+
+-- `bk_collector_new`
+abbrev pub CollectorFresh : BkCollector → Type 0
+CollectorFresh r = Form FreshCollector collectorOut r
+
+-- `bk_collector_byte`
+abbrev pub CollectorTakes : BkCollector → ℕ → ℕ → List ℕ → BkCollected → List ℕ → Type 0
+CollectorTakes s time b was r is = Form (λ a. ByteCollected (collectorIn s) time b was a is) (collectedOut s) r
+
+-- `bk_model_new`
+abbrev pub ModelFresh : BkInfo → BkModel → Type 0
+ModelFresh i r = Form (FreshModel (infoIn i)) modelOut r
+
+-- `bk_model_request`
+abbrev pub ModelAsks : BkModel → ℕ → List ℕ → BkAsked → List ℕ → Type 0
+ModelAsks m code was r is = Form (λ a. Asking (modelIn m) (record { 0 = code }) was a is) (askedOut m) r
+
+-- `bk_model_sample`
+abbrev pub ModelSends : BkModel → BkSample → List ℕ → BkWritten → List ℕ → Type 0
+ModelSends m x was r is = Form (λ a. Writes (sampleSent (modelIn m) (sampleIn x)) was a is) writtenOut r
+
+-- `bk_model_fault`
+abbrev pub ModelFaults : BkModel → BkModel → Type 0
+ModelFaults m r = Form (InAnother (modelIn m) ProtectionStop) modelOut r
+
+-- `bk_model_set_motor`
+abbrev pub ModelMotor : BkModel → ℕ → BkModel → Type 0
+ModelMotor m stable r = Form (MotorSet (modelIn m) (flagIn stable)) modelOut r
+
+-- `bk_model_set_error`
+abbrev pub ModelError : BkModel → ℕ → BkModel → Type 0
+ModelError m error r = Form (ErrorSet (modelIn m) error) modelOut r
+
+-- `bk_model_set_status`: the error code stays
+abbrev pub ModelStatus : BkModel → ℕ → BkHealthSet → Type 0
+ModelStatus m status r = Form (HealthSetting (modelIn m) status (m .error)) (healthSetOut m) r
+
+-- `bk_model_set_health`
+abbrev pub ModelHealth : BkModel → ℕ → ℕ → BkHealthSet → Type 0
+ModelHealth m status error r = Form (HealthSetting (modelIn m) status error) (healthSetOut m) r
 
 -- ---- the reader
 

@@ -2,7 +2,7 @@
 use paper::refusal::Answer;
 use paper::refusal::Written;
 ghost use mathlib.Core.Path.{_≡_};
-ghost use Rattle.bernkessel.specs.Answers.{answerOut, writtenOut};
+ghost use Rattle.bernkessel.specs.Answers.{answerOut, writtenOut, flagOut};
 
 #[repr(C)]
 pub struct BkWritten {
@@ -29,4 +29,10 @@ pub fn written_out(written: Written) -> BkWritten
             refusal: q.number(),
         },
     }
+}
+
+pub fn flag_out(t: bool) -> u8
+    ensures { λ r. ⌜ r ≡ flagOut t ⌝ }
+{
+    if t { 1 } else { 0 }
 }

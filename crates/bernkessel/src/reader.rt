@@ -109,7 +109,7 @@ fn phase_out(phase: Phase) -> u8
     }
 }
 
-fn stop_out(stop: Stop) -> u8
+pub(crate) fn stop_out(stop: Stop) -> u8
     ensures { λ r. ⌜ r ≡ stopNumber stop ⌝ }
 {
     match stop {
@@ -121,7 +121,7 @@ fn stop_out(stop: Stop) -> u8
     }
 }
 
-fn reader_in(c: BkReader) -> Reader
+pub(crate) fn reader_in(c: BkReader) -> Reader
     ensures { λ r. ⌜ r ≡ readerIn c ⌝ }
 {
     let held = c.held;
@@ -133,7 +133,7 @@ fn reader_in(c: BkReader) -> Reader
     }
 }
 
-fn reader_out(reader: Reader) -> BkReader
+pub(crate) fn reader_out(reader: Reader) -> BkReader
     ensures { λ r. ⌜ r ≡ readerOut reader ⌝ }
 {
     let phase = reader.phase;

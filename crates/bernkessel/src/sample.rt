@@ -1,9 +1,10 @@
 // The C form of a sample and of its units.
+use crate::answer::flag_out;
 use paper::unit::AngleQ6;
 use paper::unit::DistanceQ2;
 use wire::sample::Sample;
 ghost use mathlib.Core.Path.{_≡_};
-ghost use Rattle.bernkessel.specs.Sample.{sampleIn};
+ghost use Rattle.bernkessel.specs.Sample.{sampleIn, sampleOut};
 
 // In 64ths of a degree.
 #[repr(C)]
@@ -26,6 +27,14 @@ pub struct BkSample {
     pub distance: BkDistanceQ2,
 }
 
+// What stands beside a refusal.
+pub const NONE: BkSample = BkSample {
+    start: 0,
+    quality: 0,
+    angle: BkAngleQ6 { q6: 0 },
+    distance: BkDistanceQ2 { q2: 0 },
+};
+
 pub fn sample_in(c: BkSample) -> Sample
     ensures { λ r. ⌜ r ≡ sampleIn c ⌝ }
 {
@@ -34,5 +43,16 @@ pub fn sample_in(c: BkSample) -> Sample
         quality: c.quality,
         angle: AngleQ6(c.angle.q6),
         distance: DistanceQ2(c.distance.q2),
+    }
+}
+
+pub fn sample_out(m: Sample) -> BkSample
+    ensures { λ r. ⌜ r ≡ sampleOut m ⌝ }
+{
+    BkSample {
+        start: flag_out(m.start),
+        quality: m.quality,
+        angle: BkAngleQ6 { q6: m.angle.0 },
+        distance: BkDistanceQ2 { q2: m.distance.0 },
     }
 }

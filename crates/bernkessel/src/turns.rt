@@ -68,13 +68,13 @@ pub extern "C" fn bk_gatherer_row(
     row_out(gatherer, gatherer_in(gatherer).row(words, filling, closed))
 }
 
-fn gatherer_in(c: BkGatherer) -> Gatherer
+pub(crate) fn gatherer_in(c: BkGatherer) -> Gatherer
     ensures { λ r. ⌜ r ≡ gathererIn c ⌝ }
 {
     Gatherer { count: c.count }
 }
 
-fn gatherer_out(gatherer: Gatherer) -> BkGatherer
+pub(crate) fn gatherer_out(gatherer: Gatherer) -> BkGatherer
     ensures { λ r. ⌜ r ≡ gathererOut gatherer ⌝ }
 {
     BkGatherer {
