@@ -1,8 +1,8 @@
 //! Deterministic generators of inputs, each from a printed seed: plain values, edges, damage.
 
-use crate::compare::{codec, collector, model, ring, session, stream, text, turns};
+use crate::compare::{codec, collector, model, record, ring, session, stream, text, turns};
 use crate::own::ring::RING_BYTES;
-use crate::own::{write_request, Angle, Distance, Record, Request, Sample};
+use crate::own::{listing, write_request, Angle, Distance, Record, Request, Sample};
 
 /// A small generator of random numbers.
 #[derive(Clone, Debug)]
@@ -344,7 +344,7 @@ pub fn codec_case(rng: &mut Rng) -> codec::Case {
         0 => rng.below(2 * right + 2),
         _ => right,
     };
-    match rng.below(13) {
+    match rng.below(12) {
         0 => {
             let code = if rng.one_in(2) { rng.byte() | 0x80 } else { code(rng) };
             let most = match rng.below(20) {
@@ -415,20 +415,40 @@ pub fn codec_case(rng: &mut Rng) -> codec::Case {
             quality: if rng.one_in(5) { edge_byte(rng) } else { rng.below(64) as u8 },
             angle: angle(rng),
             distance: edge_word(rng),
+            room: room(rng, 3),
         },
         10 => {
-            let mut words = fit_sample(rng).to_words().expect("it fits").to_vec();
-            match rng.below(4) {
-                0 => words[rng.below(3)] = edge_word(rng),
-                1 => words.resize(length(rng, 3), 0),
-                _ => {}
+            let mut words = fit_sample(rng).to_words().expect("it fits");
+            if rng.one_in(2) {
+                words[rng.below(3)] = edge_word(rng);
             }
             Case::FromWords { words }
         }
-        11 => Case::ReadRecord { bytes: near_record(rng) },
+        _ => {
+            let length = rng.below(12);
+            let mut bytes = sample_bytes(rng).to_vec();
+            bytes.extend(rng.bytes(length));
+            bytes.truncate(length.max(4));
+            Case::ReadFront { bytes: near(rng, bytes) }
+        }
+    }
+}
+
+/// A call with a turn record.
+pub fn record_case(rng: &mut Rng) -> record::Case {
+    use record::Case;
+    match rng.below(4) {
+        0 => Case::Read { bytes: near_record(rng) },
+        1 => {
+            let cell = match rng.below(3) {
+                0 => rng.pick(&[0, 1, 358, 359, 360, 361, usize::MAX]),
+                _ => rng.below(360),
+            };
+            Case::Cell { bytes: near_record(rng), cell }
+        }
         _ => {
             let samples = if rng.one_in(3) { edge_word(rng) } else { 1 + rng.below(8_192) as u16 };
-            Case::WriteRecord {
+            Case::Write {
                 number: rng.long() as u32,
                 samples,
                 serial: rng.array(),
@@ -730,7 +750,10 @@ pub fn ring_case(rng: &mut Rng) -> ring::Case {
         }
         7 => Call::AllRead,
         8 => Call::Erase,
-        _ => Call::List,
+        _ => {
+            let needed = listing(&image.bytes()).len();
+            Call::List { room: room(rng, needed) }
+        }
     };
     Case { image, call }
 }

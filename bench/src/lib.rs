@@ -3,3 +3,5 @@
 pub mod compare;
 pub mod gen;
 pub mod own;
+#[cfg(feature = "product")]
+pub mod product;

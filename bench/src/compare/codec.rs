@@ -1,10 +1,10 @@
-//! Comparing the writers and readers of requests, descriptors, replies, samples and records.
+//! Comparing the writers and readers of requests, descriptors, replies and samples.
 
 use super::shrink::Smaller;
-use super::{compare, number, Compared, Pair, Plan, FILL};
-use crate::own::{
-    write_request, Angle, Descriptor, Distance, Health, Info, Record, Refusal, Sample,
-};
+use super::{compare, number, Compared, Pair, Plan, FILL, FILL_WORD};
+use crate::own::{write_request, Angle, Descriptor, Distance, Health, Info, Refusal, Sample};
+#[cfg(feature = "product")]
+use crate::product;
 use crate::{gen, smaller_case};
 
 /// One call of a codec. `room` is the length of the output lent.
@@ -20,10 +20,9 @@ pub enum Case {
     WriteHealth { status: u8, error: u16, room: usize },
     ReadSample { bytes: Vec<u8> },
     WriteSample { start: bool, quality: u8, angle: u16, distance: u16, room: usize },
-    ToWords { start: bool, quality: u8, angle: u16, distance: u16 },
-    FromWords { words: Vec<u16> },
-    ReadRecord { bytes: Vec<u8> },
-    WriteRecord { number: u32, samples: u16, serial: [u8; 16], cells: [u16; 360], room: usize },
+    ReadFront { bytes: Vec<u8> },
+    ToWords { start: bool, quality: u8, angle: u16, distance: u16, room: usize },
+    FromWords { words: [u16; 3] },
 }
 
 impl Smaller for Case {
@@ -46,14 +45,11 @@ impl Smaller for Case {
             Case::WriteSample { start, quality, angle, distance, room } => {
                 smaller_case!(Case::WriteSample; start, quality, angle, distance, room)
             }
-            Case::ToWords { start, quality, angle, distance } => {
-                smaller_case!(Case::ToWords; start, quality, angle, distance)
+            Case::ReadFront { bytes } => smaller_case!(Case::ReadFront; bytes),
+            Case::ToWords { start, quality, angle, distance, room } => {
+                smaller_case!(Case::ToWords; start, quality, angle, distance, room)
             }
             Case::FromWords { words } => smaller_case!(Case::FromWords; words),
-            Case::ReadRecord { bytes } => smaller_case!(Case::ReadRecord; bytes),
-            Case::WriteRecord { number, samples, serial, cells, room } => {
-                smaller_case!(Case::WriteRecord; number, samples, serial, cells, room)
-            }
         }
     }
 }
@@ -70,6 +66,30 @@ pub struct Answer {
 }
 
 impl Answer {
+    /// The answer of a writer of words, with the row lent.
+    fn words(refusal: u8, written: usize, row: &[u16]) -> Answer {
+        let fields = if refusal == 0 { vec![written as u64] } else { Vec::new() };
+        Answer { refusal, fields, out: row.iter().flat_map(|word| word.to_le_bytes()).collect() }
+    }
+
+    /// The answer of a reader of the product: beside a refusal all fields are 0, and are not told.
+    #[cfg(feature = "product")]
+    pub fn given(refusal: u8, mut fields: Vec<u64>) -> Answer {
+        if refusal != 0 && fields.iter().all(|&field| field == 0) {
+            fields.clear();
+        }
+        Answer { refusal, fields, out: Vec::new() }
+    }
+
+    /// The answer of a writer of the product that is lent so much room.
+    #[cfg(feature = "product")]
+    pub fn written(room: usize, call: impl FnOnce(&mut [u8]) -> product::Written) -> Answer {
+        let mut out = vec![FILL; room];
+        let product::Written { bytes, refusal } = call(&mut out);
+        let fields = if refusal == 0 { vec![bytes as u64] } else { Vec::new() };
+        Answer { refusal, fields, out }
+    }
+
     /// The answer of a reader.
     pub fn read(fields: Result<Vec<u64>, Refusal>) -> Answer {
         Answer { refusal: number(&fields), fields: fields.unwrap_or_default(), out: Vec::new() }
@@ -129,23 +149,71 @@ pub fn own(case: &Case) -> Answer {
         Case::WriteSample { start, quality, angle, distance, room } => {
             Answer::write(room, |out| sample(start, quality, angle, distance).write(out))
         }
-        Case::ToWords { start, quality, angle, distance } => {
+        Case::ReadFront { ref bytes } => {
+            let front = bytes.get(..5).ok_or(Refusal::NotSample);
+            Answer::read(front.and_then(Sample::read).map(|s| fields(&s)))
+        }
+        Case::ToWords { start, quality, angle, distance, room } => {
+            let mut row = vec![FILL_WORD; room];
             let words = sample(start, quality, angle, distance).to_words();
-            Answer::read(words.map(|words| words.map(u64::from).to_vec()))
+            let written = words.and_then(|words| {
+                let front = row.first_chunk_mut().ok_or(Refusal::OutputShort)?;
+                *front = words;
+                Ok(words.len())
+            });
+            Answer::words(number(&written), written.unwrap_or(0), &row)
         }
         Case::FromWords { ref words } => {
             Answer::read(Sample::from_words(words).map(|s| fields(&s)))
         }
-        Case::ReadRecord { ref bytes } => Answer::read(Record::read(bytes).map(|record| {
-            let mut fields = vec![u64::from(record.number), u64::from(record.samples)];
-            fields.extend(wide(&record.serial));
-            fields.extend(record.cells.iter().map(|cell| u64::from(cell.q2())));
-            fields
-        })),
-        Case::WriteRecord { number, samples, serial, ref cells, room } => {
-            let cells = cells.map(Distance::from_q2);
-            Answer::write(room, |out| Record { number, samples, serial, cells }.write(out))
+    }
+}
+
+/// The product's answer.
+#[cfg(feature = "product")]
+pub fn product(case: &Case) -> Answer {
+    let sample = product::Sample::new;
+    let sample_read = |product::SampleRead { sample: s, refusal }| {
+        let numbers = [s.start.into(), s.quality.into(), s.angle.q6, s.distance.q2];
+        Answer::given(refusal, numbers.map(u64::from).to_vec())
+    };
+    match *case {
+        Case::WriteRequest { code, ref payload, room } => {
+            Answer::written(room, |out| product::request_write(code, payload, out))
         }
+        Case::ReadDescriptor { ref bytes } => {
+            let product::DescriptorRead { descriptor: d, refusal } =
+                product::Descriptor::read(bytes);
+            Answer::given(refusal, vec![d.length.into(), d.mode.into(), d.kind.into()])
+        }
+        Case::WriteDescriptor { length, mode, kind, room } => {
+            Answer::written(room, |out| product::Descriptor { length, mode, kind }.write(out))
+        }
+        Case::ReadInfo { ref bytes } => {
+            let read = product::Info::read(bytes);
+            Answer::given(read.refusal, read.info.fields().map(u64::from).to_vec())
+        }
+        Case::WriteInfo { ref fields, room } => {
+            Answer::written(room, |out| product::Info::new(fields).write(out))
+        }
+        Case::ReadHealth { ref bytes } => {
+            let product::HealthRead { health: h, refusal } = product::Health::read(bytes);
+            Answer::given(refusal, vec![h.status.into(), h.error.into()])
+        }
+        Case::WriteHealth { status, error, room } => {
+            Answer::written(room, |out| product::Health { status, error }.write(out))
+        }
+        Case::ReadSample { ref bytes } => sample_read(product::Sample::read(bytes)),
+        Case::ReadFront { ref bytes } => sample_read(product::Sample::front(bytes)),
+        Case::WriteSample { start, quality, angle, distance, room } => {
+            Answer::written(room, |out| sample(start.into(), quality, angle, distance).write(out))
+        }
+        Case::ToWords { start, quality, angle, distance, room } => {
+            let mut row = vec![FILL_WORD; room];
+            let written = sample(start.into(), quality, angle, distance).write_words(&mut row);
+            Answer::words(written.refusal, written.bytes, &row)
+        }
+        Case::FromWords { words } => sample_read(product::Sample::read_words(words)),
     }
 }
 

@@ -1,8 +1,12 @@
 //! Comparing the device's collector of requests.
 
 use super::shrink::{earlier, Smaller};
+#[cfg(feature = "product")]
+use super::FILL;
 use super::{compare, number, Compared, Pair, Plan};
 use crate::own::Collector;
+#[cfg(feature = "product")]
+use crate::product;
 use crate::{gen, smaller_fields};
 
 /// A collector's state. Empty is the fresh one.
@@ -81,6 +85,57 @@ pub fn own(case: &Case) -> Vec<Answer> {
         let packet = answer.ok().flatten().map(|packet| (packet.code, packet.payload.to_vec()));
         let (last, began) = (collector.last(), collector.began().unwrap_or(0));
         Answer { refusal, packet, state: State { last, began, packet: collector.packet() } }
+    });
+    answers.collect()
+}
+
+/// The product's collector in a state, and the payload lent to it. A fresh one is made by the product itself.
+#[cfg(feature = "product")]
+fn to_product(state: &State) -> (product::Collector, [u8; 255]) {
+    let mut payload = [FILL; 255];
+    if *state == State::default() {
+        return (product::Collector::new(), payload);
+    }
+    let mut stage = product::Stage::default();
+    if let [_, code_and_on @ ..] = state.packet.as_slice() {
+        stage.kind = product::Stage::STARTED;
+        if let [code, size_and_on @ ..] = code_and_on {
+            (stage.kind, stage.code) = (product::Stage::CODED, *code);
+            if let [size, begin @ ..] = size_and_on {
+                (stage.kind, stage.size) = (product::Stage::SIZED, *size);
+                stage.count = begin.len() as u8;
+                stage.sum = state.packet.iter().fold(0, |sum, byte| sum ^ byte);
+                payload[..begin.len()].copy_from_slice(begin);
+            }
+        }
+    }
+    (product::Collector { stage, begun: state.began, last: state.last }, payload)
+}
+
+/// The state of the product's collector with the payload lent to it.
+#[cfg(feature = "product")]
+fn of_product(collector: &product::Collector, payload: &[u8; 255]) -> State {
+    let product::Collector { stage, begun, last } = *collector;
+    let mut packet = vec![0xA5, stage.code, stage.size];
+    match stage.kind {
+        product::Stage::STARTED => packet.truncate(1),
+        product::Stage::CODED => packet.truncate(2),
+        product::Stage::SIZED => packet.extend_from_slice(&payload[..usize::from(stage.count)]),
+        _ => packet.clear(),
+    }
+    State { last, began: begun, packet }
+}
+
+/// The product's answers, one for each byte.
+#[cfg(feature = "product")]
+pub fn product(case: &Case) -> Vec<Answer> {
+    let (mut collector, mut payload) = to_product(&case.state);
+    let answers = case.bytes.iter().map(|&(byte, now)| {
+        let collected = collector.byte(now, byte, &mut payload);
+        collector = collected.collector;
+        let packet = (collected.complete != 0)
+            .then(|| (collected.code, payload[..usize::from(collected.size)].to_vec()));
+        Answer { refusal: collected.refusal, packet, state: of_product(&collector, &payload) }
     });
     answers.collect()
 }

@@ -6,6 +6,7 @@
 pub mod codec;
 pub mod collector;
 pub mod model;
+pub mod record;
 pub mod ring;
 pub mod session;
 pub mod shrink;

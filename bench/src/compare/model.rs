@@ -3,6 +3,8 @@
 use super::shrink::Smaller;
 use super::{compare, number, Compared, Pair, Plan, FILL};
 use crate::own::{self, Angle, Distance, Info, Model, Sample};
+#[cfg(feature = "product")]
+use crate::product;
 use crate::{gen, smaller_case, smaller_fields};
 
 /// One call.
@@ -140,6 +142,59 @@ pub fn own(case: &Case) -> Vec<Answer> {
         };
         let state = State::of(&model);
         Answer { refusal: number(&sent), sent: sent.unwrap_or(0), out, state }
+    });
+    answers.collect()
+}
+
+/// The product's model in a state. A fresh one is made by the product itself.
+#[cfg(feature = "product")]
+fn to_product(state: &State, info: &[u8; 20]) -> product::Model {
+    let fresh = product::Model::new(product::Info::new(info));
+    let State { doing, stable, status, error } = *state;
+    let given =
+        product::Model { error, state: doing, stable: stable.into(), warning: status, ..fresh };
+    if *state == State::default() {
+        fresh
+    } else {
+        given
+    }
+}
+
+/// The product's answers, one for each step. An info that is not the one given is told as state 255.
+#[cfg(feature = "product")]
+pub fn product(case: &Case) -> Vec<Answer> {
+    let mut model = to_product(&case.state, &case.info);
+    let answers = case.steps.iter().map(|step| {
+        let mut out = Vec::new();
+        let mut written = product::Written::default();
+        match *step {
+            Step::Request { code, room } => {
+                out.resize(room, FILL);
+                let asked = model.request(code, &mut out);
+                (model, written) = (asked.model, asked.written);
+            }
+            Step::Sample { start, quality, angle, distance, room } => {
+                out.resize(room, FILL);
+                let sample = product::Sample::new(start.into(), quality, angle, distance);
+                written = model.sample(sample, &mut out);
+            }
+            Step::Fault => model = model.fault(),
+            Step::MotorStable { stable } => model = model.set_motor(stable.into()),
+            Step::Status { status } => {
+                let set = model.set_status(status);
+                (model, written.refusal) = (set.model, set.refusal);
+            }
+            Step::Error { error } => model = model.set_error(error),
+            Step::Health { status, error } => {
+                let set = model.set_health(status, error);
+                (model, written.refusal) = (set.model, set.refusal);
+            }
+        }
+        let kept = model.info.fields() == case.info;
+        let doing = if kept { model.state } else { u8::MAX };
+        let (stable, status) = (model.stable != 0, model.warning);
+        let state = State { doing, stable, status, error: model.error };
+        Answer { refusal: written.refusal, sent: written.bytes, out, state }
     });
     answers.collect()
 }

@@ -1,9 +1,11 @@
 //! Comparing the ring and its listing.
 
 use super::shrink::Smaller;
-use super::{compare, number, Compared, Pair, Plan};
+use super::{compare, number, Compared, Pair, Plan, FILL};
 use crate::own::ring::{self, RING_BYTES, SLOTS, SLOT_BYTES};
 use crate::own::{listing, Refusal};
+#[cfg(feature = "product")]
+use crate::product;
 use crate::{gen, smaller_case, smaller_fields};
 
 /// A ring image in few words: one byte everywhere, a head, and bytes at the beginning of some slots.
@@ -59,7 +61,7 @@ pub enum Call {
     Turn { i: usize },
     AllRead,
     Erase,
-    List,
+    List { room: usize },
 }
 
 /// One call on one image.
@@ -83,7 +85,8 @@ impl Smaller for Call {
             Call::Store { record, k } => smaller_case!(Call::Store; k, record),
             Call::Add { record } => smaller_case!(Call::Add; record),
             Call::Turn { i } => smaller_case!(Call::Turn; i),
-            Call::Held | Call::AllRead | Call::Erase | Call::List => Box::new(std::iter::empty()),
+            Call::List { room } => smaller_case!(Call::List; room),
+            Call::Held | Call::AllRead | Call::Erase => Box::new(std::iter::empty()),
         }
     }
 }
@@ -99,13 +102,13 @@ impl Smaller for Case {
 pub struct Answer {
     /// The number of the refusal, 0 for none.
     pub refusal: u8,
-    /// How many turns are held, where that was asked.
+    /// How many turns are held, where that was asked; of a listing, how many bytes it has.
     pub held: usize,
     /// Where the turn stands in the ring and how long it is; (0, 0) for the empty part.
     pub part: (usize, usize),
     /// Which bytes were changed, and what they are now.
     pub changes: Vec<(usize, u8)>,
-    /// The listing, where that was asked.
+    /// The output lent for a listing, whole, after the call.
     pub text: Vec<u8>,
 }
 
@@ -131,9 +134,48 @@ pub fn own(case: &Case) -> Answer {
         }
         Call::AllRead => done = ring::all_read(&bytes),
         Call::Erase => done = ring::erase(&mut bytes),
-        Call::List => answer.text = listing(&bytes),
+        Call::List { room } => {
+            let text = listing(&bytes);
+            let mut out = vec![FILL; *room];
+            match out.get_mut(..text.len()) {
+                Some(front) => {
+                    front.copy_from_slice(&text);
+                    answer.held = text.len();
+                }
+                None => done = Err(Refusal::OutputShort),
+            }
+            answer.text = out;
+        }
     }
     answer.refusal = number(&done);
+    answer.changes = case.image.changes(&bytes);
+    answer
+}
+
+/// The product's answer. Reading a turn out is none of its C interface: that call is answered as refused by 255.
+#[cfg(feature = "product")]
+pub fn product(case: &Case) -> Answer {
+    let mut bytes = case.image.bytes();
+    let mut answer = Answer::default();
+    answer.refusal = match &case.call {
+        Call::Held => {
+            let held = product::ring_held(&bytes);
+            answer.held = held.turns;
+            held.refusal
+        }
+        Call::Store { record, k } => product::ring_store(&mut bytes, record, *k),
+        Call::Add { record } => product::ring_add(&mut bytes, record),
+        Call::Turn { .. } => u8::MAX,
+        Call::AllRead => product::ring_all_read(&bytes),
+        Call::Erase => product::ring_erase(&mut bytes),
+        Call::List { room } => {
+            let mut out = vec![FILL; *room];
+            let written = product::ring_list(&bytes, &mut out);
+            answer.held = written.bytes;
+            answer.text = out;
+            written.refusal
+        }
+    };
     answer.changes = case.image.changes(&bytes);
     answer
 }
@@ -141,6 +183,19 @@ pub fn own(case: &Case) -> Answer {
 /// Compares the other program with the bench's own.
 pub fn against(plan: &Plan, other: &mut dyn FnMut(&Case) -> Answer) -> Compared<Case, Answer> {
     compare(plan, Pair { part: "ring", make: &gen::ring_case, own: &own, other })
+}
+
+/// Compares the product with the bench's own program, on all calls but the one that C has not.
+#[cfg(feature = "product")]
+pub fn against_product(plan: &Plan) -> Compared<Case, Answer> {
+    let make = |rng: &mut gen::Rng| {
+        let case = gen::ring_case(rng);
+        match case.call {
+            Call::Turn { .. } => Case { call: Call::AllRead, ..case },
+            _ => case,
+        }
+    };
+    compare(plan, Pair { part: "ring", make: &make, own: &own, other: &mut product })
 }
 
 #[cfg(test)]

@@ -3,6 +3,8 @@
 use super::shrink::{earlier, Smaller};
 use super::{compare, number, Compared, Pair, Plan, FILL};
 use crate::own::Session;
+#[cfg(feature = "product")]
+use crate::product;
 use crate::{gen, smaller_case, smaller_fields};
 
 /// A session's state.
@@ -108,6 +110,32 @@ pub fn own(case: &Case) -> Vec<Answer> {
         let (last, wait) = (session.last(), session.wait() as u8);
         let state = State { last, wait, awaiting: session.awaiting() };
         Answer { refusal: number(&written), written: written.unwrap_or(0), out, state }
+    });
+    answers.collect()
+}
+
+/// The product's answers. A fresh session is made by the product itself.
+#[cfg(feature = "product")]
+pub fn product(case: &Case) -> Vec<Answer> {
+    let State { last, wait, awaiting } = case.state;
+    let fresh = (last, wait, awaiting) == (0, 0, false);
+    let given = product::Session { last, wait: wait.into(), awaited: awaiting.into() };
+    let mut session = if fresh { product::Session::new() } else { given };
+    let answers = case.steps.iter().map(|step| {
+        let mut out = Vec::new();
+        let mut written = product::Written::default();
+        match *step {
+            Step::Request { now, code, ref payload, room } => {
+                out.resize(room, FILL);
+                let sent = session.send(now, code, payload, &mut out);
+                (session, written) = (sent.session, sent.written);
+            }
+            Step::ReplyEnded => session = session.reply_ended(),
+        }
+        let product::Session { last, wait, awaited } = session;
+        let wait = u8::try_from(wait).unwrap_or(u8::MAX);
+        let state = State { last, wait, awaiting: awaited != 0 };
+        Answer { refusal: written.refusal, written: written.bytes, out, state }
     });
     answers.collect()
 }

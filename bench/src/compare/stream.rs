@@ -3,7 +3,9 @@
 use super::shrink::Smaller;
 use super::{compare, number, Compared, Pair, Plan, FILL_WORD};
 use crate::own::sample::SAMPLE_WORDS;
-use crate::own::{Expected, Outcome, Phase, PlainReader, Reader, Refusal, Stop};
+use crate::own::{Expected, Outcome, Phase, PlainReader, Reader, Stop};
+#[cfg(feature = "product")]
+use crate::product;
 use crate::{gen, smaller_case, smaller_fields};
 use std::fmt;
 
@@ -72,6 +74,39 @@ impl State {
         State { phase: phase as u8, held: Held::new(held), skipped }
     }
 
+    /// The product's numbers of the seven phases.
+    #[cfg(feature = "product")]
+    const PRODUCT: [u8; 7] = [
+        product::Reader::IDLE,
+        product::Reader::SEEK_SCAN,
+        product::Reader::SEEK_INFO,
+        product::Reader::SEEK_HEALTH,
+        product::Reader::SCANNING,
+        product::Reader::INFO_REPLY,
+        product::Reader::HEALTH_REPLY,
+    ];
+
+    /// The product's reader in this state; a fresh one is made by the product itself.
+    #[cfg(feature = "product")]
+    fn to_product(self) -> product::Reader {
+        if self == State::default() {
+            return product::Reader::new();
+        }
+        let mut held = [0; 20];
+        held[..self.held.bytes().len()].copy_from_slice(self.held.bytes());
+        let phase = State::PRODUCT[usize::from(self.phase)];
+        product::Reader { phase, n: self.held.count, held, skipped: self.skipped }
+    }
+
+    /// The state of the product's reader. A phase that is none is told as it is.
+    #[cfg(feature = "product")]
+    fn of_product(reader: &product::Reader) -> State {
+        let phase = State::PRODUCT.iter().position(|&phase| phase == reader.phase);
+        let phase = phase.map_or(reader.phase, |phase| phase as u8);
+        let held = &reader.held[..usize::from(reader.n).min(20)];
+        State { phase, held: Held::new(held), skipped: reader.skipped }
+    }
+
     /// The bench's own reader in this state.
     pub fn reader(&self) -> Reader {
         let phase = State::PHASES[usize::from(self.phase)];
@@ -136,6 +171,24 @@ pub enum Answer {
     },
 }
 
+/// What one call of a reader answers, the stop as its number.
+pub struct Called {
+    /// How many bytes were taken.
+    pub taken: usize,
+    /// How many words were written.
+    pub words: usize,
+    /// Why the call ended.
+    pub stop: u8,
+    /// The reply, or zeros.
+    pub reply: [u8; 20],
+}
+
+impl From<Outcome> for Called {
+    fn from(Outcome { taken, words, stop, reply }: Outcome) -> Called {
+        Called { taken, words, stop: stop as u8, reply }
+    }
+}
+
 /// Runs a case over any reader, given as three closures: tell, read, state.
 ///
 /// Bytes not taken are handed over again, from the second call on with room for a sample; a reader
@@ -143,8 +196,8 @@ pub enum Answer {
 pub fn run<R>(
     case: &Case,
     reader: &mut R,
-    tell: impl Fn(&mut R, u8) -> Result<(), Refusal>,
-    read: impl Fn(&mut R, &[u8], &mut [u16]) -> Outcome,
+    tell: impl Fn(&mut R, u8) -> u8,
+    read: impl Fn(&mut R, &[u8], &mut [u16]) -> Called,
     state: impl Fn(&R) -> State,
 ) -> Vec<Answer> {
     let mut answers = Vec::new();
@@ -152,7 +205,7 @@ pub fn run<R>(
     for step in &case.steps {
         match step {
             Step::Tell { code } => {
-                let refusal = number(&tell(reader, *code));
+                let refusal = tell(reader, *code);
                 answers.push(Answer::Told { refusal, state: state(reader) });
             }
             Step::Read { bytes, room } => {
@@ -161,13 +214,13 @@ pub fn run<R>(
                 for _ in 0..bytes.len() + 2 {
                     row.clear();
                     row.resize(room, FILL_WORD);
-                    let Outcome { taken, words, stop, reply } = read(reader, rest, &mut row);
+                    let Called { taken, words, stop, reply } = read(reader, rest, &mut row);
                     let (words, beyond) = row.split_at_checked(words).unwrap_or((&row, &[]));
                     answers.push(Answer::Read {
                         taken,
                         words: words.to_vec(),
                         untouched: beyond.iter().all(|&word| word == FILL_WORD),
-                        stop: stop as u8,
+                        stop,
                         reply,
                         state: state(reader),
                     });
@@ -185,7 +238,14 @@ pub fn run<R>(
 
 /// The bench's own answers.
 pub fn own(case: &Case) -> Vec<Answer> {
-    run(case, &mut case.state.reader(), Reader::tell, Reader::read, |reader| {
+    let read = |reader: &mut Reader, input: &[u8], row: &mut [u16]| reader.read(input, row).into();
+    run_own(case, read)
+}
+
+/// The bench's own answers, with another way to read.
+fn run_own(case: &Case, read: impl Fn(&mut Reader, &[u8], &mut [u16]) -> Called) -> Vec<Answer> {
+    let tell = |reader: &mut Reader, code| number(&reader.tell(code));
+    run(case, &mut case.state.reader(), tell, read, |reader| {
         State::new(reader.phase(), reader.held(), reader.skipped())
     })
 }
@@ -193,9 +253,29 @@ pub fn own(case: &Case) -> Vec<Answer> {
 /// The answers of the reader that goes byte by byte.
 pub fn plain(case: &Case) -> Vec<Answer> {
     let mut reader = PlainReader::like(&case.state.reader());
-    run(case, &mut reader, PlainReader::tell, PlainReader::read, |reader| {
+    let tell = |reader: &mut PlainReader, code| number(&reader.tell(code));
+    let read =
+        |reader: &mut PlainReader, input: &[u8], row: &mut [u16]| reader.read(input, row).into();
+    run(case, &mut reader, tell, read, |reader| {
         State::new(reader.phase(), reader.held(), reader.skipped())
     })
+}
+
+/// The product's answers.
+#[cfg(feature = "product")]
+pub fn product(case: &Case) -> Vec<Answer> {
+    let tell = |reader: &mut product::Reader, code| {
+        let told = reader.tell(code);
+        *reader = told.reader;
+        told.refusal
+    };
+    let read = |reader: &mut product::Reader, input: &[u8], row: &mut [u16]| {
+        let reading = reader.read(input, row);
+        *reader = reading.reader;
+        let product::Reading { taken, words, stop, reply, .. } = reading;
+        Called { taken, words, stop, reply }
+    };
+    run(case, &mut case.state.to_product(), tell, read, State::of_product)
 }
 
 /// What a case gives whatever the cuts are.
@@ -280,13 +360,9 @@ mod tests {
         let read = |reader: &mut Reader, input: &[u8], row: &mut [u16]| {
             let outcome = reader.read(input, row);
             let missed = outcome.stop == Stop::Descriptor && input.starts_with(&[0xA5, 0xA5]);
-            Outcome { stop: if missed { Stop::End } else { outcome.stop }, ..outcome }
+            Outcome { stop: if missed { Stop::End } else { outcome.stop }, ..outcome }.into()
         };
-        let mut wrong = |case: &Case| {
-            run(case, &mut case.state.reader(), Reader::tell, read, |reader| {
-                State::new(reader.phase(), reader.held(), reader.skipped())
-            })
-        };
+        let mut wrong = |case: &Case| run_own(case, read);
         let mismatch = against(&Plan { seed: 7, cases: 1_000_000 }, &mut wrong).unwrap_err();
         let [.., Step::Read { bytes, room: 0 }] = mismatch.case.steps.as_slice() else {
             panic!("{mismatch}");

@@ -1,8 +1,12 @@
 //! Comparing the gatherer of turns.
 
 use super::shrink::Smaller;
+#[cfg(feature = "product")]
+use super::FILL_WORD;
 use super::{compare, number, Compared, Pair, Plan};
 use crate::own::{Angle, Distance, Gatherer, Sample, Turn};
+#[cfg(feature = "product")]
+use crate::product;
 use crate::{gen, smaller_case, smaller_fields};
 
 /// One call, or as many as it takes until a row is taken.
@@ -138,6 +142,76 @@ fn answer(refusal: u8, words: usize, closed: Option<Turn>, gatherer: &Gatherer) 
     let plain = |turn: Turn| (turn.samples, turn.cells.iter().map(|cell| cell.q2()).collect());
     let open = gatherer.open_turn().map(plain);
     Answer { refusal, words, closed: closed.map(plain), open }
+}
+
+/// The product's gatherer with the cells that it is lent.
+#[cfg(feature = "product")]
+struct Lent {
+    gatherer: product::Gatherer,
+    filling: product::Cells,
+    closed: product::Cells,
+}
+
+#[cfg(feature = "product")]
+impl Lent {
+    fn new(open: &Open) -> Lent {
+        let mut filling = [FILL_WORD; 360];
+        if open.samples > 0 {
+            filling = [0; 360];
+            for &(cell, q2) in &open.cells {
+                filling[usize::from(cell)] = q2;
+            }
+        }
+        let fresh = product::Gatherer::new();
+        let gatherer =
+            if open.samples > 0 { product::Gatherer { count: open.samples } } else { fresh };
+        Lent { gatherer, filling, closed: [FILL_WORD; 360] }
+    }
+
+    /// What a call gave. Where no turn closed and the cells lent for it are touched, that is told as one.
+    fn answer(&mut self, gathered: product::Gathered, words: usize) -> Answer {
+        self.gatherer = gathered.gatherer;
+        let touched = gathered.turn > 0 || self.closed != [FILL_WORD; 360];
+        let closed = touched.then(|| (gathered.turn, self.closed.to_vec()));
+        self.closed = [FILL_WORD; 360];
+        let open = (self.gatherer.count > 0).then(|| (self.gatherer.count, self.filling.to_vec()));
+        Answer { refusal: gathered.refusal, words, closed, open }
+    }
+
+    fn rows(&mut self, mut words: &[u16], answers: &mut Vec<Answer>) {
+        loop {
+            let row = self.gatherer.row(words, &mut self.filling, &mut self.closed);
+            answers.push(self.answer(row.gathered, row.words));
+            words = words.get(row.words..).unwrap_or_default();
+            if row.words == 0 || words.is_empty() {
+                break;
+            }
+        }
+    }
+}
+
+/// The product's answers.
+#[cfg(feature = "product")]
+pub fn product(case: &Case) -> Vec<Answer> {
+    let mut lent = Lent::new(&case.open);
+    let mut answers = Vec::new();
+    for step in &case.steps {
+        match *step {
+            Step::Sample { start, quality, angle, distance } => {
+                let sample = product::Sample::new(u8::from(start), quality, angle, distance);
+                let gathered = lent.gatherer.sample(sample, &mut lent.filling, &mut lent.closed);
+                let words = if gathered.refusal == 0 { 3 } else { 0 };
+                answers.push(lent.answer(gathered, words));
+            }
+            Step::Row { ref words } => lent.rows(words, &mut answers),
+            Step::Repeat { ref sample, count } => lent.rows(&sample.repeat(count), &mut answers),
+            Step::RequestTold => {
+                let gatherer = lent.gatherer.request();
+                answers.push(lent.answer(product::Gathered { gatherer, turn: 0, refusal: 0 }, 0));
+            }
+        }
+    }
+    answers
 }
 
 /// Compares the other program with the bench's own.
