@@ -4,7 +4,7 @@
 //! of each part can be given, and so can the parts.
 
 use bench::compare::{
-    codec, collector, model, record, ring, session, stream, turns, Compared, Plan,
+    any, codec, collector, model, record, ring, session, stream, turns, Compared, Plan,
 };
 use std::fmt::Debug;
 use std::process::ExitCode;
@@ -25,7 +25,7 @@ fn text<C: Debug, A: Debug>(compared: Compared<C, A>) -> Result<u64, String> {
     compared.map_err(|mismatch| mismatch.to_string())
 }
 
-const PARTS: [Part; 8] = [
+const PARTS: [Part; 9] = [
     Part {
         name: "codecs",
         cases: 2_000_000,
@@ -62,6 +62,7 @@ const PARTS: [Part; 8] = [
         cases: 100_000,
         run: |plan| text(turns::against(plan, &mut turns::product)),
     },
+    Part { name: "states", cases: 2_000_000, run: |plan| text(any::against_product(plan)) },
 ];
 
 /// What was asked for.

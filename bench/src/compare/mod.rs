@@ -3,6 +3,8 @@
 //! Each part has a module with a case, an answer, the bench's own answer to a case, and `compare`,
 //! which takes the other program as a closure from a case to an answer.
 
+#[cfg(feature = "product")]
+pub mod any;
 pub mod codec;
 pub mod collector;
 pub mod model;

@@ -35,16 +35,16 @@ pub enum Stage {
 /// A collector of request packets.
 #[derive(Clone, Debug, PartialEq, Eq)]
 pub struct Collector {
-    stage: Stage,
+    pub(crate) stage: Stage,
     /// Time of the last byte accepted.
-    last: u64,
+    pub(crate) last: u64,
     /// Time of the packet's first byte.
-    began: u64,
-    code: u8,
-    size: u8,
-    got: u8,
-    checksum: u8,
-    payload: [u8; LARGEST_PAYLOAD],
+    pub(crate) began: u64,
+    pub(crate) code: u8,
+    pub(crate) size: u8,
+    pub(crate) got: u8,
+    pub(crate) checksum: u8,
+    pub(crate) payload: [u8; LARGEST_PAYLOAD],
 }
 
 impl Default for Collector {
@@ -119,7 +119,7 @@ impl Collector {
             return Err(Refusal::Earlier);
         }
         self.last = now;
-        if self.stage != Stage::Start && now - self.began > PACKET_MS {
+        if self.stage != Stage::Start && now.saturating_sub(self.began) > PACKET_MS {
             self.stage = Stage::Start;
         }
         let complete = match self.stage {
