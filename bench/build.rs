@@ -19,6 +19,7 @@ fn main() {
         eprintln!("{} is missing: rt staticlib bernkessel writes it", archive.display());
         process::exit(1);
     }
+    println!("cargo:rustc-env=BERNKESSEL_ARCHIVE={}", archive.display());
     println!("cargo:rustc-link-search=native={}", folder.display());
     println!("cargo:rustc-link-lib=static=bernkessel");
 }
