@@ -286,7 +286,7 @@ mod tests {
                 }
             }
             assert!(stores == whole);
-            let mut in_order = before.clone();
+            let mut in_order = filled(head);
             add_in_order(&mut in_order, &added).unwrap();
             assert!(in_order == whole);
         }
