@@ -6,7 +6,7 @@ use Rattle.paper.specs.declared.refusal.Answer.{Answer}
 use Rattle.paper.proofs.Outcome.{gives-one, gives-refuses}
 use Rattle.paper.proofs.Refusals.{refused-one, answered-one}
 use Rattle.ring.specs.Answers.{counted}
-use Rattle.ring.specs.Promises.{HeldGiven, StoreGiven, AddGiven, TurnGiven, TurnRefusalGiven, AllReadGiven, EraseGiven}
+use Rattle.ring.specs.Promises.{HeldGiven, StoreGiven, AddGiven, TurnGiven, TurnStartGiven, TurnRefusalGiven, AllReadGiven, EraseGiven}
 use Rattle.ring.specs.declared.answer.Held.{Held}
 use Rattle.ring.specs.declared.answer.Held.the-variants.{Turns, Refused}
 
@@ -30,6 +30,9 @@ module _ {S : ℕ} {was : List ℕ} where
 
   pub turn-determined : {i : ℕ} {part other : List ℕ} → TurnGiven S was i part → TurnGiven S was i other → part ≡ other
   turn-determined p q = p .answer ∙ sym (q .answer)
+
+  pub start-determined : {i r s : ℕ} → TurnStartGiven S was i r → TurnStartGiven S was i s → r ≡ s
+  start-determined p q = p .answer ∙ sym (q .answer)
 
   pub refusal-determined : {i : ℕ} {r s : Answer} → TurnRefusalGiven S was i r → TurnRefusalGiven S was i s → r ≡ s
   refusal-determined {r = r} {s = s} p q = answered-one r s (p .answer ∙ sym (q .answer))

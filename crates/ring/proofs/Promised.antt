@@ -16,7 +16,7 @@ use Rattle.paper.proofs.Outcome.{refuse-yes, refuse-no}
 use Rattle.record.specs.Record.{reads}
 use Rattle.ring.specs.Ring.{slotStart, headOf, IsRing, held, slotOf, turnAt, turns, store, stores, erased}
 use Rattle.ring.specs.Answers.{counted, allRead, counting, storing, reading, readingAll, erasing}
-use Rattle.ring.specs.Promises.{HeldGiven, StoreGiven, AddGiven, TurnGiven, TurnRefusalGiven, AllReadGiven, EraseGiven}
+use Rattle.ring.specs.Promises.{HeldGiven, StoreGiven, AddGiven, TurnGiven, TurnStartGiven, TurnRefusalGiven, AllReadGiven, EraseGiven}
 use Rattle.ring.specs.inner.Checks.{ringing, asking}
 use Rattle.ring.specs.declared.answer.Held.the-variants as held-answer
 use Rattle.ring.proofs.Answered.{
@@ -118,6 +118,9 @@ module _ (S : ℕ) (mem : List ℕ) (i : ℕ) where
   pub turn-refused : {a : Answer} {r : Refusal} → TurnRefusalGiven S mem i a → a ≡ Refused r → TurnGiven S mem i []
   turn-refused p e = record { answer = sym (given-no (λ t. t) [] (mapped-refuses (λ _. tt) (reading S mem i) (means-refused (p .answer) e))) }
 
+  pub start-refused : {a : Answer} {r : Refusal} → TurnRefusalGiven S mem i a → a ≡ Refused r → TurnStartGiven S mem i 0
+  start-refused p e = record { answer = sym (given-no (λ _. slotStart (slotOf S (headOf mem) i)) 0 (mapped-refuses (λ _. tt) (reading S mem i) (means-refused (p .answer) e))) }
+
   module _ {a : Answer} (two : 2 ≤ S) (byte : S ≤ 128) (p : TurnRefusalGiven S mem i a) (e : a ≡ Done) where
     pub turn-there : IsRing S mem × (i < held S (headOf mem))
     turn-there =
@@ -129,3 +132,8 @@ module _ (S : ℕ) (mem : List ℕ) (i : ℕ) where
         let d = mapped-gives (λ _. tt) (reading S mem i) (means-done (p .answer) e) .1 in
         let w = reading-means S mem i two byte d in
         record { answer = q ∙ sym (w .3) ∙ sym (given-yes (λ t. t) [] d) }
+
+    pub start-given : {n : ℕ} → n ≡ slotStart (slotOf S (headOf mem) i) → TurnStartGiven S mem i n
+    start-given q =
+        let d = mapped-gives (λ _. tt) (reading S mem i) (means-done (p .answer) e) .1 in
+        record { answer = q ∙ sym (given-yes (λ _. slotStart (slotOf S (headOf mem) i)) 0 d) }

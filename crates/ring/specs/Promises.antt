@@ -5,7 +5,7 @@ use mathlib.Core.List.{List, []}
 use Rattle.paper.specs.Outcome.{ifGiven, mapped}
 use Rattle.paper.specs.Refusals.{answered}
 use Rattle.paper.specs.declared.refusal.Answer.{Answer}
-use Rattle.ring.specs.Ring.{store, stores, erased}
+use Rattle.ring.specs.Ring.{headOf, slotOf, slotStart, store, stores, erased}
 use Rattle.ring.specs.Answers.{counted, counting, storing, reading, readingAll, erasing}
 use Rattle.ring.specs.declared.answer.Held.{Held}
 
@@ -26,6 +26,10 @@ pub record AddGiven (S : ℕ) (was rec : List ℕ) (r : Answer) (is : List ℕ) 
 -- `turn`: "Its refusal is the empty part"
 pub record TurnGiven (S : ℕ) (mem : List ℕ) (i : ℕ) (part : List ℕ) : Type 0 where
   pub answer : part ≡ ifGiven (reading S mem i) (λ t. t) []
+
+-- `turn_start`: where those bytes begin, for those who cannot be handed a part; 0 where it is refused
+pub record TurnStartGiven (S : ℕ) (mem : List ℕ) (i r : ℕ) : Type 0 where
+  pub answer : r ≡ ifGiven (reading S mem i) (λ _. slotStart (slotOf S (headOf mem) i)) 0
 
 -- `turn_refusal`: "a second question with the same arguments gives the number"
 pub record TurnRefusalGiven (S : ℕ) (mem : List ℕ) (i : ℕ) (r : Answer) : Type 0 where

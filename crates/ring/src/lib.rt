@@ -10,6 +10,7 @@ pub use reading::all_read;
 pub use reading::held;
 pub use reading::turn;
 pub use reading::turn_refusal;
+pub use reading::turn_start;
 pub use storing::add;
 pub use storing::erase;
 pub use storing::store;

@@ -8,9 +8,10 @@ use crate::place::slot_start;
 use paper::refusal::Answer;
 use paper::refusal::Refusal;
 ghost use mathlib.Core.Path.{_≡_};
-ghost use Prim.Native.Nat.{_<_};
-ghost use Rattle.ring.specs.Ring.{slots, IsRing, headOf, held as heldBy, turnAt};
-ghost use Rattle.ring.specs.Promises.{HeldGiven, TurnGiven, TurnRefusalGiven, AllReadGiven};
+ghost use Prim.Native.Nat.{_+_, _≤_, _<_};
+ghost use lib.ListN.{length};
+ghost use Rattle.ring.specs.Ring.{slots, IsRing, headOf, held as heldBy, slotStart, slotOf, turnAt};
+ghost use Rattle.ring.specs.Promises.{HeldGiven, TurnGiven, TurnStartGiven, TurnRefusalGiven, AllReadGiven};
 
 // How many turns are held. (10, 11)
 pub fn held(mem: &[u8]) -> Held
@@ -23,13 +24,22 @@ pub fn held(mem: &[u8]) -> Held
     }
 }
 
+// Where turn i begins.
+fn start_of(mem: &[u8], i: usize) -> usize
+    requires { ⌜ IsRing slots (now mem) ⌝ }
+    requires { ⌜ i < heldBy slots (headOf (now mem)) ⌝ }
+    ensures { λ r. ⌜ (r ≡ slotStart (slotOf slots (headOf (now (mem .entry))) i)) × (r + 754 ≤ length (now (mem .entry))) ⌝ }
+{
+    slot_start(slot_of(mem[0], i))
+}
+
 // The 754 bytes where turn i stands.
 fn part(mem: &[u8], i: usize) -> &[u8]
     requires { ⌜ IsRing slots (now mem) ⌝ }
     requires { ⌜ i < heldBy slots (headOf (now mem)) ⌝ }
     ensures { λ r. ⌜ now r ≡ turnAt slots (now (mem .entry)) i ⌝ }
 {
-    let start = slot_start(slot_of(mem[0], i));
+    let start = start_of(mem, i);
     let end = start + 754;
     &mem[start..end]
 }
@@ -42,6 +52,16 @@ pub fn turn(mem: &[u8], i: usize) -> &[u8]
         return &mem[0..0];
     }
     part(mem, i)
+}
+
+// Where turn i begins in the memory, and 0 where it is refused. (10, 11, 12, 9)
+pub fn turn_start(mem: &[u8], i: usize) -> usize
+    ensures { λ r. ⌜ TurnStartGiven slots (now (mem .entry)) i r ⌝ }
+{
+    if let Answer::Refused(_) = turn_refusal(mem, i) {
+        return 0;
+    }
+    start_of(mem, i)
 }
 
 // Why turn i is refused, or that it is there and reads. (10, 11, 12, 9)
