@@ -412,12 +412,22 @@ bk_count bk_record_count(const uint8_t *rec, size_t rec_len);
 /* Cell c. Refuses BK_NOT_A_RECORD, then BK_NO_SUCH_NUMBER. */
 bk_cell bk_record_cell(const uint8_t *rec, size_t rec_len, size_t c);
 
+/* Writes the serial of a record, BK_SERIAL_BYTES. Refuses BK_NOT_A_RECORD, then BK_OUTPUT_SHORT. */
+bk_written bk_record_serial(const uint8_t *rec, size_t rec_len, uint8_t *out, size_t out_len);
+
 /* ---- the ring, a memory of BK_RING_BYTES */
 
 typedef struct {
     size_t turns;
     uint8_t refusal;
 } bk_held;
+
+/* A part of the memory that was lent: `length` bytes from `offset` on; none where it is refused. */
+typedef struct {
+    size_t offset;
+    size_t length;
+    uint8_t refusal;
+} bk_part;
 
 /* How many turns are held. Refuses BK_NOT_A_RING, BK_HEAD_OVER. */
 bk_held bk_ring_held(const uint8_t *mem, size_t mem_len);
@@ -429,6 +439,10 @@ uint8_t bk_ring_store(uint8_t *mem, size_t mem_len, const uint8_t *rec, size_t r
 /* All stores of a record, in order. Refuses BK_NOT_A_RING, BK_HEAD_OVER, BK_NOT_A_RECORD. */
 uint8_t bk_ring_add(uint8_t *mem, size_t mem_len, const uint8_t *rec, size_t rec_len);
 
+/* Where turn i stands, 0 being the oldest: a record of BK_RECORD_BYTES that reads.
+ * Refuses BK_NOT_A_RING, BK_HEAD_OVER, BK_NO_SUCH_NUMBER, BK_NOT_A_RECORD. */
+bk_part bk_ring_turn(const uint8_t *mem, size_t mem_len, size_t i);
+
 /* Whether all turns that are held read: BK_NONE, or BK_NOT_A_RING, BK_HEAD_OVER, BK_NOT_A_RECORD. */
 uint8_t bk_ring_all_read(const uint8_t *mem, size_t mem_len);
 
@@ -438,6 +452,54 @@ uint8_t bk_ring_erase(uint8_t *mem, size_t mem_len);
 /* Writes the ring's text: the count, then a line for each turn, oldest first; what is refused is told in the text.
  * Refuses BK_OUTPUT_SHORT, and never where the output has BK_LISTING_BYTES. */
 bk_written bk_ring_list(const uint8_t *mem, size_t mem_len, uint8_t *out, size_t out_len);
+
+/* ---- the recorder's core: session, reader and gatherer in one value */
+
+/* A host: its session, reader and gatherer, and the serial of the last info reply, zeros before the first. */
+typedef struct {
+    bk_session session;
+    bk_reader reader;
+    bk_gatherer gatherer;
+    uint8_t serial[16];
+} bk_host;
+
+typedef struct {
+    bk_host host;
+    bk_written written;
+} bk_host_sent;
+
+/* As bk_reading, with the host after the call. */
+typedef struct {
+    bk_host host;
+    size_t taken;
+    size_t words;
+    uint8_t stop;
+    uint8_t reply[20];
+} bk_heard;
+
+/* The host after the call, the words taken, and the count of samples of the turn that closed, 0 where none closed. */
+typedef struct {
+    bk_host host;
+    size_t words;
+    uint16_t turn;
+    uint8_t refusal;
+} bk_turned;
+
+/* A fresh host: nothing sent, nothing awaited, no turn open. */
+bk_host bk_host_new(void);
+
+/* Writes a request and tells it to reader and gatherer. Refuses as bk_session_send does. */
+bk_host_sent bk_host_send(bk_host host, uint64_t time, uint8_t code, const uint8_t *payload, size_t payload_len, uint8_t *out, size_t out_len);
+
+/* Reads bytes of the scanner as bk_reader_read does; the end of a reply ends the wait, and the serial of an info reply is kept. Refuses nothing. */
+bk_heard bk_host_read(bk_host host, const uint8_t *input, size_t input_len, uint16_t *words, size_t words_len);
+
+/* Gathers a row of words as bk_gatherer_row does; where a turn closes, `rec` is its record with this number. Refuses BK_NOT_A_SAMPLE. */
+bk_turned bk_host_gather(bk_host host, const uint16_t *row, size_t row_len, uint32_t number, uint16_t filling[BK_CELLS], uint16_t closed[BK_CELLS],
+                         uint8_t rec[BK_RECORD_BYTES]);
+
+/* The number of the next turn, which goes on from the newest turn that the ring holds. Refuses BK_NOT_A_RING, BK_HEAD_OVER, BK_NOT_A_RECORD. */
+bk_number bk_host_next_number(const uint8_t *mem, size_t mem_len);
 
 #ifdef __cplusplus
 }

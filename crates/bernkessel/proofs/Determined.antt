@@ -18,8 +18,18 @@ use Rattle.device.proofs.Determined.{
 use Rattle.stream.proofs.Determined.{made-determined, tells-determined, reads-determined}
 use Rattle.turn.proofs.Determined.{fresh-determined, gathers-determined, row-determined}
 use Rattle.record.proofs.Determined.{check-determined, number-determined, count-determined, cell-determined}
-use Rattle.ring.proofs.Determined.{held-determined, store-determined, add-determined, all-read-determined, erase-determined}
+use Rattle.ring.proofs.Determined.{
+  held-determined,
+  store-determined,
+  add-determined,
+  turn-determined,
+  start-determined,
+  refusal-determined,
+  all-read-determined,
+  erase-determined,
+}
 use Rattle.listing.proofs.Determined.{list-determined}
+use Rattle.host.proofs.Determined as host
 use Rattle.bernkessel.specs.Forms.{Form}
 use Rattle.bernkessel.specs.Promises.{
   RequestWritten,
@@ -57,12 +67,19 @@ use Rattle.bernkessel.specs.Promises.{
   RecordNumber,
   RecordCount,
   RecordCell,
+  RecordSerial,
   RingHeld,
   RingStored,
   RingAdded,
+  RingTurn,
   RingReads,
   RingErased,
   RingListed,
+  HostMade,
+  HostSends,
+  HostReads,
+  HostGathers,
+  HostNumber,
 }
 use Rattle.bernkessel.specs.declared.answer.BkWritten.{BkWritten}
 use Rattle.bernkessel.specs.declared.codec.BkDescriptor.{BkDescriptor}
@@ -90,6 +107,11 @@ use Rattle.bernkessel.specs.declared.records.BkNumber.{BkNumber}
 use Rattle.bernkessel.specs.declared.records.BkCount.{BkCount}
 use Rattle.bernkessel.specs.declared.records.BkCell.{BkCell}
 use Rattle.bernkessel.specs.declared.rings.BkHeld.{BkHeld}
+use Rattle.bernkessel.specs.declared.rings.BkPart.{BkPart}
+use Rattle.bernkessel.specs.declared.hosts.BkHost.{BkHost}
+use Rattle.bernkessel.specs.declared.hosts.BkHostSent.{BkHostSent}
+use Rattle.bernkessel.specs.declared.hosts.BkHeard.{BkHeard}
+use Rattle.bernkessel.specs.declared.hosts.BkTurned.{BkTurned}
 
 -- two forms of one answer are equal
 form-one : {A B : Type 0} {P Q : A → Type 0} {out : A → B} {r s : B} (p : Form P out r) (q : Form Q out s) → p .answer ≡ q .answer → r ≡ s
@@ -226,6 +248,9 @@ record-count-determined p q = form-one p q (count-determined (p .kept) (q .kept)
 pub record-cell-determined : {rec : List ℕ} {c : ℕ} {r s : BkCell} → RecordCell rec c r → RecordCell rec c s → r ≡ s
 record-cell-determined p q = form-one p q (cell-determined (p .kept) (q .kept))
 
+pub record-serial-determined : (rec : List ℕ) {was is js : List ℕ} {r s : BkWritten} → RecordSerial rec was r is → RecordSerial rec was s js → (r ≡ s) × (is ≡ js)
+record-serial-determined rec p q = form-with p q (writes-determined (p .kept) (q .kept))
+
 -- ---- the ring and its text
 
 pub ring-held-determined : {mem : List ℕ} {r s : BkHeld} → RingHeld mem r → RingHeld mem s → r ≡ s
@@ -237,6 +262,17 @@ ring-store-determined p q = form-with p q (store-determined (p .kept) (q .kept))
 pub ring-add-determined : {was rec is js : List ℕ} {r s : ℕ} → RingAdded was rec r is → RingAdded was rec s js → (r ≡ s) × (is ≡ js)
 ring-add-determined p q = form-with p q (add-determined (p .kept) (q .kept))
 
+same-part : (r s : BkPart) → r .offset ≡ s .offset → r .length ≡ s .length → r .refusal ≡ s .refusal → r ≡ s
+same-part r s a b c =
+    ap (λ (x : ℕ). record { offset = x; length = r .length; refusal = r .refusal }) a
+    ∙ ap (λ (x : ℕ). record { offset = s .offset; length = x; refusal = r .refusal }) b
+    ∙ ap (λ (x : ℕ). record { offset = s .offset; length = s .length; refusal = x }) c
+
+pub ring-turn-determined : {mem : List ℕ} {i : ℕ} {r s : BkPart} → RingTurn mem i r → RingTurn mem i s → r ≡ s
+ring-turn-determined {r = r} {s = s} p q =
+    same-part r s (start-determined (p .offset) (q .offset)) (form-one (p .size) (q .size) (turn-determined (p .size .kept) (q .size .kept)))
+    (form-one (p .refusal) (q .refusal) (refusal-determined (p .refusal .kept) (q .refusal .kept)))
+
 pub ring-all-read-determined : {mem : List ℕ} {r s : ℕ} → RingReads mem r → RingReads mem s → r ≡ s
 ring-all-read-determined p q = form-one p q (all-read-determined (p .kept) (q .kept))
 
@@ -245,3 +281,22 @@ ring-erase-determined p q = form-with p q (erase-determined (p .kept) (q .kept))
 
 pub ring-list-determined : {mem was is js : List ℕ} {r s : BkWritten} → RingListed mem was r is → RingListed mem was s js → (r ≡ s) × (is ≡ js)
 ring-list-determined p q = form-with p q (list-determined (p .kept) (q .kept))
+
+-- ---- the recorder's core
+
+pub host-new-determined : {r s : BkHost} → HostMade r → HostMade s → r ≡ s
+host-new-determined p q = form-one p q (host.made-determined (p .kept) (q .kept))
+
+pub host-send-determined : (h : BkHost) {time code : ℕ} {payload was is js : List ℕ} {r s : BkHostSent}
+    → HostSends h time code payload was r is → HostSends h time code payload was s js → (r ≡ s) × (is ≡ js)
+host-send-determined h p q = form-with p q (host.asks-determined (p .kept) (q .kept))
+
+pub host-read-determined : (h : BkHost) {input was is js : List ℕ} {r s : BkHeard} → HostReads h input was r is → HostReads h input was s js → (r ≡ s) × (is ≡ js)
+host-read-determined h p q = form-with p q (host.hears-determined (p .kept) (q .kept))
+
+pub host-gather-determined : (h : BkHost) {row : List ℕ} {number : ℕ} {f c rec f₁ c₁ rec₁ f₂ c₂ rec₂ : List ℕ} {r s : BkTurned}
+    → HostGathers h row number f c rec r f₁ c₁ rec₁ → HostGathers h row number f c rec s f₂ c₂ rec₂ → (r ≡ s) × (f₁ ≡ f₂) × (c₁ ≡ c₂) × (rec₁ ≡ rec₂)
+host-gather-determined h p q = let d = host.turns-determined (p .kept) (q .kept) in (form-one p q (d .0), d .1, d .2, d .3)
+
+pub host-number-determined : {mem : List ℕ} {r s : BkNumber} → HostNumber mem r → HostNumber mem s → r ≡ s
+host-number-determined p q = form-one p q (host.number-determined (p .kept) (q .kept))

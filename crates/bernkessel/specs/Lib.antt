@@ -2,6 +2,7 @@ pub mod Answers
 pub mod Codec
 pub mod Collector
 pub mod Forms
+pub mod Host
 pub mod Model
 pub mod Reader
 pub mod Record

@@ -1,6 +1,8 @@
 -- What each function of C promises: the C form of an answer that the library's promise allows, and lent memory as that promise has it.
 use Prim.Native.Nat.{ℕ}
 use mathlib.Core.List.{List}
+use lib.ListN.{length}
+use Rattle.paper.specs.Outcome.{mapped}
 use Rattle.paper.specs.Writing.{Writes}
 use Rattle.wire.specs.Request.{requestOf}
 use Rattle.wire.specs.Descriptor.{bytesOfDescriptor}
@@ -14,11 +16,12 @@ use Rattle.device.specs.declared.model.State.the-variants.{ProtectionStop}
 use Rattle.stream.specs.Promises.{Made, Tells, Reads}
 use Rattle.turn.specs.Gather.{oneOf, rowOf}
 use Rattle.turn.specs.Promises.{Fresh, Gathers, GathersRow}
-use Rattle.record.specs.Record.{recordOf}
+use Rattle.record.specs.Record.{Turn, recordOf, turnOf}
 use Rattle.record.specs.Promises.{Checked, NumberGiven, CountGiven, CellGiven}
 use Rattle.ring.specs.Ring.{slots}
-use Rattle.ring.specs.Promises.{HeldGiven, StoreGiven, AddGiven, AllReadGiven, EraseGiven}
+use Rattle.ring.specs.Promises.{HeldGiven, StoreGiven, AddGiven, TurnGiven, TurnStartGiven, TurnRefusalGiven, AllReadGiven, EraseGiven}
 use Rattle.listing.specs.Promises.{ListGiven}
+use Rattle.host.specs.Promises as host
 use Rattle.bernkessel.specs.Forms.{Form}
 use Rattle.bernkessel.specs.Answers.{answerOut, writtenOut, flagIn}
 use Rattle.bernkessel.specs.Codec.{descriptorIn, descriptorOut, sampleReadOut}
@@ -31,6 +34,7 @@ use Rattle.bernkessel.specs.Sample.{sampleIn}
 use Rattle.bernkessel.specs.Turn.{gathererIn, gathererOut, gatheredOut, rowOut}
 use Rattle.bernkessel.specs.Record.{numberOut, countOut, cellOut}
 use Rattle.bernkessel.specs.Ring.{heldOut}
+use Rattle.bernkessel.specs.Host.{hostIn, hostOut, askedOut as hostAskedOut, heardOut, turnedOut}
 use Rattle.bernkessel.specs.declared.answer.BkWritten.{BkWritten}
 use Rattle.bernkessel.specs.declared.codec.BkDescriptor.{BkDescriptor}
 use Rattle.bernkessel.specs.declared.codec.BkDescriptorAnswer.{BkDescriptorAnswer}
@@ -57,6 +61,11 @@ use Rattle.bernkessel.specs.declared.records.BkNumber.{BkNumber}
 use Rattle.bernkessel.specs.declared.records.BkCount.{BkCount}
 use Rattle.bernkessel.specs.declared.records.BkCell.{BkCell}
 use Rattle.bernkessel.specs.declared.rings.BkHeld.{BkHeld}
+use Rattle.bernkessel.specs.declared.rings.BkPart.{BkPart}
+use Rattle.bernkessel.specs.declared.hosts.BkHost.{BkHost}
+use Rattle.bernkessel.specs.declared.hosts.BkHostSent.{BkHostSent}
+use Rattle.bernkessel.specs.declared.hosts.BkHeard.{BkHeard}
+use Rattle.bernkessel.specs.declared.hosts.BkTurned.{BkTurned}
 
 -- ---- codecs
 
@@ -211,6 +220,10 @@ RecordCount rec r = Form (CountGiven rec) countOut r
 abbrev pub RecordCell : List ℕ → ℕ → BkCell → Type 0
 RecordCell rec c r = Form (CellGiven rec c) cellOut r
 
+-- `bk_record_serial`: the serial is written out
+abbrev pub RecordSerial : List ℕ → List ℕ → BkWritten → List ℕ → Type 0
+RecordSerial rec was r is = Form (λ a. Writes (mapped (λ (t : Turn). t .serial) (turnOf rec)) was a is) writtenOut r
+
 -- ---- the ring and its text
 
 -- `bk_ring_held`
@@ -225,6 +238,12 @@ RingStored was rec k r is = Form (λ a. StoreGiven slots was rec k a is) answerO
 abbrev pub RingAdded : List ℕ → List ℕ → ℕ → List ℕ → Type 0
 RingAdded was rec r is = Form (λ a. AddGiven slots was rec a is) answerOut r
 
+-- `bk_ring_turn`: no part can be handed over, so it is told where the part begins and how long it is
+pub record RingTurn (mem : List ℕ) (i : ℕ) (r : BkPart) : Type 0 where
+  pub offset : TurnStartGiven slots mem i (r .offset)
+  pub size : Form (TurnGiven slots mem i) length (r .length)
+  pub refusal : Form (TurnRefusalGiven slots mem i) answerOut (r .refusal)
+
 -- `bk_ring_all_read`
 abbrev pub RingReads : List ℕ → ℕ → Type 0
 RingReads mem r = Form (AllReadGiven slots mem) answerOut r
@@ -236,3 +255,25 @@ RingErased was r is = Form (λ a. EraseGiven slots was a is) answerOut r
 -- `bk_ring_list`
 abbrev pub RingListed : List ℕ → List ℕ → BkWritten → List ℕ → Type 0
 RingListed mem was r is = Form (λ a. ListGiven slots mem was a is) writtenOut r
+
+-- ---- the recorder's core
+
+-- `bk_host_new`
+abbrev pub HostMade : BkHost → Type 0
+HostMade r = Form host.Made hostOut r
+
+-- `bk_host_send`
+abbrev pub HostSends : BkHost → ℕ → ℕ → List ℕ → List ℕ → BkHostSent → List ℕ → Type 0
+HostSends h time code payload was r is = Form (λ a. host.Asks (hostIn h) time (record { 0 = code }) payload was a is) (hostAskedOut h) r
+
+-- `bk_host_read`
+abbrev pub HostReads : BkHost → List ℕ → List ℕ → BkHeard → List ℕ → Type 0
+HostReads h input was r is = Form (λ a. host.Hears (hostIn h) input was a is) heardOut r
+
+-- `bk_host_gather`
+abbrev pub HostGathers : BkHost → List ℕ → ℕ → List ℕ → List ℕ → List ℕ → BkTurned → List ℕ → List ℕ → List ℕ → Type 0
+HostGathers h row number f c rec r f' c' rec' = Form (λ a. host.Turns (hostIn h) row number f c rec a f' c' rec') (turnedOut h) r
+
+-- `bk_host_next_number`
+abbrev pub HostNumber : List ℕ → BkNumber → Type 0
+HostNumber mem r = Form (host.NumberNext slots mem) numberOut r

@@ -2,6 +2,7 @@
 mod answer;
 pub mod codec;
 pub mod collector;
+pub mod hosts;
 pub mod model;
 pub mod reader;
 pub mod records;

@@ -3,14 +3,19 @@ use crate::answer::BkWritten;
 use crate::answer::answer_out;
 use crate::answer::written_out;
 use crate::sample::BkDistanceQ2;
+use paper::refusal::Answer;
+use paper::refusal::Written;
 use record::read;
 use record::read::CellRead;
 use record::read::CountRead;
 use record::read::NumberRead;
 use record::write;
 ghost use mathlib.Core.Path.{_≡_};
+ghost use Rattle.paper.specs.Outcome.{mapped};
+ghost use Rattle.paper.specs.Writing.{Writes};
+ghost use Rattle.record.specs.Record.{Turn, turnOf};
 ghost use Rattle.bernkessel.specs.Record.{numberOut, countOut, cellOut};
-ghost use Rattle.bernkessel.specs.Promises.{RecordWritten, RecordChecked, RecordNumber, RecordCount, RecordCell};
+ghost use Rattle.bernkessel.specs.Promises.{RecordWritten, RecordChecked, RecordNumber, RecordCount, RecordCell, RecordSerial};
 
 #[repr(C)]
 pub struct BkNumber {
@@ -71,7 +76,23 @@ pub extern "C" fn bk_record_cell(rec: &[u8], c: usize) -> BkCell
     cell_out(read::cell(rec, c))
 }
 
-fn number_out(number: NumberRead) -> BkNumber
+#[no_mangle]
+pub extern "C" fn bk_record_serial(rec: &[u8], out: &mut [u8]) -> BkWritten
+    ensures { λ r. ⌜ RecordSerial (now (rec .entry)) (now (out .entry)) r (now (out .exit)) ⌝ }
+{
+    written_out(write_serial(rec, out))
+}
+
+fn write_serial(rec: &[u8], out: &mut [u8]) -> Written
+    ensures { λ r. ⌜ Writes (mapped (λ (t : Turn). t .serial) (turnOf (now (rec .entry)))) (now (out .entry)) r (now (out .exit)) ⌝ }
+{
+    if let Answer::Refused(q) = read::check(rec) {
+        return Written::Refused(q);
+    }
+    paper::write::write(read::serial(rec), out)
+}
+
+pub(crate) fn number_out(number: NumberRead) -> BkNumber
     ensures { λ r. ⌜ r ≡ numberOut number ⌝ }
 {
     match number {

@@ -5,11 +5,18 @@ use crate::answer::written_out;
 use ring::answer::Held;
 ghost use mathlib.Core.Path.{_≡_};
 ghost use Rattle.bernkessel.specs.Ring.{heldOut};
-ghost use Rattle.bernkessel.specs.Promises.{RingHeld, RingStored, RingAdded, RingReads, RingErased, RingListed};
+ghost use Rattle.bernkessel.specs.Promises.{RingHeld, RingStored, RingAdded, RingTurn, RingReads, RingErased, RingListed};
 
 #[repr(C)]
 pub struct BkHeld {
     pub turns: usize,
+    pub refusal: u8,
+}
+
+#[repr(C)]
+pub struct BkPart {
+    pub offset: usize,
+    pub length: usize,
     pub refusal: u8,
 }
 
@@ -32,6 +39,18 @@ pub extern "C" fn bk_ring_add(mem: &mut [u8], rec: &[u8]) -> u8
     ensures { λ r. ⌜ RingAdded (now (mem .entry)) (now (rec .entry)) r (now (mem .exit)) ⌝ }
 {
     answer_out(ring::add(mem, rec))
+}
+
+// Turn i as a part of the memory, counted from the oldest.
+#[no_mangle]
+pub extern "C" fn bk_ring_turn(mem: &[u8], i: usize) -> BkPart
+    ensures { λ r. ⌜ RingTurn (now (mem .entry)) i r ⌝ }
+{
+    BkPart {
+        offset: ring::turn_start(mem, i),
+        length: ring::turn(mem, i).len(),
+        refusal: answer_out(ring::turn_refusal(mem, i)),
+    }
 }
 
 #[no_mangle]
