@@ -4,66 +4,90 @@
 //! of each part can be given, and so can the parts.
 
 use bench::compare::{
-    any, codec, collector, model, record, ring, session, stream, turns, Compared, Plan,
+    any, codec, collector, compare, model, record, ring, session, stream, text as listed, turns,
+    Compared, Pair, Plan,
 };
+use bench::{gen, own};
+use std::env;
 use std::fmt::Debug;
-use std::process::ExitCode;
+use std::io::{self, Write};
+use std::path::{Path, PathBuf};
+use std::process::{Command, ExitCode, Stdio};
 use std::time::{Instant, SystemTime, UNIX_EPOCH};
 
 /// How many of the cases of a whole run a quick one has.
 const QUICK: u64 = 50;
 
-/// A part of the paper: how many cases a whole run has, and its comparison.
-struct Part {
-    name: &'static str,
-    cases: u64,
-    run: fn(&Plan) -> Result<u64, String>,
-}
+/// A part of the paper: its name, how many cases a whole run has, and its comparison.
+type Part = (&'static str, u64, fn(&Plan) -> Result<u64, String>);
 
 /// A comparison, with what it found as text.
 fn text<C: Debug, A: Debug>(compared: Compared<C, A>) -> Result<u64, String> {
     compared.map_err(|mismatch| mismatch.to_string())
 }
 
-const PARTS: [Part; 9] = [
-    Part {
-        name: "codecs",
-        cases: 2_000_000,
-        run: |plan| text(codec::against(plan, &mut codec::product)),
-    },
-    Part {
-        name: "session",
-        cases: 1_000_000,
-        run: |plan| text(session::against(plan, &mut session::product)),
-    },
-    Part {
-        name: "collector",
-        cases: 500_000,
-        run: |plan| text(collector::against(plan, &mut collector::product)),
-    },
-    Part {
-        name: "model",
-        cases: 500_000,
-        run: |plan| text(model::against(plan, &mut model::product)),
-    },
-    Part {
-        name: "records",
-        cases: 500_000,
-        run: |plan| text(record::against(plan, &mut record::product)),
-    },
-    Part { name: "ring", cases: 300_000, run: |plan| text(ring::against_product(plan)) },
-    Part {
-        name: "reader",
-        cases: 1_000_000,
-        run: |plan| text(stream::against(plan, &mut stream::product)),
-    },
-    Part {
-        name: "turns",
-        cases: 100_000,
-        run: |plan| text(turns::against(plan, &mut turns::product)),
-    },
-    Part { name: "states", cases: 2_000_000, run: |plan| text(any::against_product(plan)) },
+const PARTS: [Part; 11] = [
+    ("codecs", 2_000_000, |plan| text(codec::against(plan, &mut codec::product))),
+    ("session", 1_000_000, |plan| text(session::against(plan, &mut session::product))),
+    ("collector", 500_000, |plan| text(collector::against(plan, &mut collector::product))),
+    ("model", 500_000, |plan| text(model::against(plan, &mut model::product))),
+    ("records", 500_000, |plan| text(record::against(plan, &mut record::product))),
+    ("ring", 300_000, |plan| text(ring::against_product(plan))),
+    ("reader", 1_000_000, |plan| text(stream::against(plan, &mut stream::product))),
+    ("turns", 100_000, |plan| text(turns::against(plan, &mut turns::product))),
+    ("states", 2_000_000, |plan| text(any::against_product(plan))),
+    ("scanlist", 5_000, scanlist),
+    ("ringlist", 5_000, ringlist),
 ];
+
+/// Where the product's programs are, where the repository's own are not meant.
+const PROGRAMS: &str = "BERNKESSEL_BIN";
+
+/// One of the product's programs.
+fn program(name: &str) -> Result<PathBuf, String> {
+    let own = concat!(env!("CARGO_MANIFEST_DIR"), "/../target/bin");
+    let path = env::var_os(PROGRAMS).map_or(own.into(), PathBuf::from).join(name);
+    let missing = || format!("{} is missing: rt check {name} writes it", path.display());
+    path.is_file().then_some(()).ok_or_else(missing)?;
+    Ok(path)
+}
+
+/// What a program prints of an input.
+fn printed(program: &Path, words: &[String], input: &[u8]) -> Vec<u8> {
+    let run = || -> io::Result<Vec<u8>> {
+        let mut child = Command::new(program)
+            .args(words)
+            .stdin(Stdio::piped())
+            .stdout(Stdio::piped())
+            .stderr(Stdio::null())
+            .spawn()?;
+        // A program that needs no input may be gone before it is written.
+        let _ = child.stdin.take().map(|mut stdin| stdin.write_all(input));
+        Ok(child.wait_with_output()?.stdout)
+    };
+    run().unwrap_or_else(|error| error.to_string().into_bytes())
+}
+
+fn scanlist(plan: &Plan) -> Result<u64, String> {
+    let program = program("scanlist")?;
+    text(listed::against(plan, &mut |case| {
+        let words = [format!("{:02x}", case.code), case.cut.to_string(), case.room.to_string()];
+        printed(&program, &words, &case.bytes)
+    }))
+}
+
+fn ringlist(plan: &Plan) -> Result<u64, String> {
+    let program = program("ringlist")?;
+    text(compare(
+        plan,
+        Pair {
+            part: "ringlist",
+            make: &gen::ring_image,
+            own: &|image: &ring::Image| own::listing(&image.bytes()),
+            other: &mut |image| printed(&program, &[], &image.bytes()),
+        },
+    ))
+}
 
 /// What was asked for.
 struct Asked {
@@ -86,9 +110,9 @@ fn asked(mut words: impl Iterator<Item = String>) -> Result<Asked, String> {
             "--quick" => asked.quick = true,
             "--seed" => asked.seed = number()?,
             "--cases" => asked.cases = Some(number()?),
-            name if PARTS.iter().any(|part| part.name == name) => asked.parts.push(word),
+            name if PARTS.iter().any(|part| part.0 == name) => asked.parts.push(word),
             _ => {
-                let names: Vec<&str> = PARTS.iter().map(|part| part.name).collect();
+                let names: Vec<&str> = PARTS.iter().map(|part| part.0).collect();
                 return Err(format!("{word} is no part: {}", names.join(" ")));
             }
         }
@@ -97,7 +121,7 @@ fn asked(mut words: impl Iterator<Item = String>) -> Result<Asked, String> {
 }
 
 fn main() -> ExitCode {
-    let asked = match asked(std::env::args().skip(1)) {
+    let asked = match asked(env::args().skip(1)) {
         Ok(asked) => asked,
         Err(why) => {
             eprintln!("compare: {why}");
@@ -107,19 +131,19 @@ fn main() -> ExitCode {
     println!("compare: seed {}", asked.seed);
     let mut differing = 0;
     let (mut all, begin) = (0, Instant::now());
-    for part in &PARTS {
-        if !asked.parts.is_empty() && !asked.parts.iter().any(|name| name == part.name) {
+    for (part, cases, run) in PARTS {
+        if !asked.parts.is_empty() && !asked.parts.iter().any(|name| name == part) {
             continue;
         }
-        let whole = if asked.quick { part.cases / QUICK } else { part.cases };
+        let whole = if asked.quick { cases / QUICK } else { cases };
         let plan = Plan { seed: asked.seed, cases: asked.cases.unwrap_or(whole) };
         let start = Instant::now();
-        match (part.run)(&plan) {
+        match run(&plan) {
             Ok(cases) => {
                 all += cases;
                 println!(
                     "{:<12} {cases:>9} cases agree  {:>6.1} s",
-                    part.name,
+                    part,
                     start.elapsed().as_secs_f64()
                 );
             }

@@ -3,7 +3,7 @@
 //! States are in the product's numbers. A refused call gives back the very bytes that came in, any other call a
 //! state in which each thing has one form.
 
-use super::shrink::Smaller;
+use super::shrink::{earlier, Smaller};
 use super::{compare, number, Compared, Pair, Plan, FILL, FILL_WORD};
 use crate::gen::{self, Rng};
 use crate::own::collector::{Collector, Stage};
@@ -68,11 +68,15 @@ impl Smaller for Case {
                 smaller_case!(Case::Row; words, count, filling, closed)
             }
             Case::Send { session, time, code, payload, room } => {
-                smaller_case!(Case::Send; payload, session, time, code, room)
+                let fields: Box<dyn Iterator<Item = Case>> =
+                    smaller_case!(Case::Send; payload, session, time, code, room);
+                Box::new(fields.chain(self.earlier()))
             }
             Case::ReplyEnded { session } => smaller_case!(Case::ReplyEnded; session),
             Case::Byte { collector, time, byte, payload } => {
-                smaller_case!(Case::Byte; collector, time, byte, payload)
+                let fields: Box<dyn Iterator<Item = Case>> =
+                    smaller_case!(Case::Byte; collector, time, byte, payload);
+                Box::new(fields.chain(self.earlier()))
             }
             Case::Ask { model, code, room } => smaller_case!(Case::Ask; model, code, room),
             Case::ModelSample { model, sample, room } => {
@@ -86,6 +90,31 @@ impl Smaller for Case {
                 smaller_case!(Case::Health; model, status, error)
             }
         }
+    }
+}
+
+impl Case {
+    /// The times of a case.
+    fn times(&mut self) -> Vec<&mut u64> {
+        match self {
+            Case::Send { session, time, .. } => vec![&mut session.last, time],
+            Case::Byte { collector, time, .. } => {
+                vec![&mut collector.begun, &mut collector.last, time]
+            }
+            _ => Vec::new(),
+        }
+    }
+
+    /// All times but 0 earlier by the same.
+    fn earlier(&self) -> impl Iterator<Item = Case> + '_ {
+        let times: Vec<u64> = self.clone().times().into_iter().map(|time| *time).collect();
+        earlier(times.into_iter()).map(|by| {
+            let mut case = self.clone();
+            for time in case.times() {
+                *time = time.saturating_sub(by);
+            }
+            case
+        })
     }
 }
 

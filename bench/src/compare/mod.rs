@@ -25,7 +25,7 @@ pub const FILL: u8 = 0xEE;
 /// What a lent word is before a call.
 pub const FILL_WORD: u16 = 0xEEEE;
 /// The most cases tried in making a failing one smaller.
-const LARGEST_SEARCH: usize = 20_000;
+const LARGEST_SEARCH: usize = 200_000;
 
 /// Which cases are compared: so many, made from a seed.
 #[derive(Clone, Copy, Debug)]
@@ -56,10 +56,22 @@ pub struct Mismatch<C, A> {
 impl<C: fmt::Debug, A: fmt::Debug> fmt::Display for Mismatch<C, A> {
     fn fmt(&self, f: &mut fmt::Formatter<'_>) -> fmt::Result {
         writeln!(f, "{}: differs (seed {}, case {})", self.part, self.seed, self.number)?;
-        writeln!(f, "  case  {:02x?}", self.case)?;
-        writeln!(f, "  own   {:02x?}", self.own)?;
-        write!(f, "  other {:02x?}", self.other)
+        writeln!(f, "  case  {}", shown(&self.case))?;
+        writeln!(f, "  own   {}", shown(&self.own))?;
+        write!(f, "  other {}", shown(&self.other))
     }
+}
+
+/// A value with its numbers in hexadecimal, and of a long run of equal ones the first alone with their count.
+fn shown(value: &impl fmt::Debug) -> String {
+    const LONG: usize = 8;
+    let text = format!("{value:02x?}");
+    let items: Vec<&str> = text.split(", ").collect();
+    let runs = items.chunk_by(|item, next| item == next).map(|run| match run.len() {
+        LONG.. => format!("{} ({} times)", run[0], run.len()),
+        _ => run.join(", "),
+    });
+    runs.collect::<Vec<_>>().join(", ")
 }
 
 /// The outcome of comparing a part: how many cases agreed, or one that does not.
@@ -162,6 +174,13 @@ mod tests {
         let text = mismatch.to_string();
         assert!(text.starts_with("wrong: differs (seed 1, case "), "{text}");
         assert!(text.contains("case  [64, 07]"), "{text}");
+    }
+
+    #[test]
+    fn long_runs_are_shown_once() {
+        assert_eq!(shown(&[0u8; 4]), "[00, 00, 00, 00]");
+        assert_eq!(shown(&[0u8; 40]), "[00, 00 (38 times), 00]");
+        assert_eq!(shown(&(vec![7u8; 3], true)), "([07, 07, 07], true)");
     }
 
     #[test]
