@@ -1,3 +1,4 @@
 pub mod Determined
 pub mod Back
+pub mod Meant
 pub mod Serials
