@@ -437,7 +437,7 @@ pub fn codec_case(rng: &mut Rng) -> codec::Case {
 /// A call with a turn record.
 pub fn record_case(rng: &mut Rng) -> record::Case {
     use record::Case;
-    match rng.below(4) {
+    match rng.below(5) {
         0 => Case::Read { bytes: near_record(rng) },
         1 => {
             let cell = match rng.below(3) {
@@ -446,6 +446,7 @@ pub fn record_case(rng: &mut Rng) -> record::Case {
             };
             Case::Cell { bytes: near_record(rng), cell }
         }
+        2 => Case::Serial { bytes: near_record(rng), room: room(rng, 16) },
         _ => {
             let samples = if rng.one_in(3) { edge_word(rng) } else { 1 + rng.below(8_192) as u16 };
             Case::Write {
@@ -731,8 +732,9 @@ pub fn ring_image(rng: &mut Rng) -> ring::Image {
 pub fn ring_case(rng: &mut Rng) -> ring::Case {
     use ring::{Call, Case};
     let image = ring_image(rng);
-    let call = match rng.below(10) {
+    let call = match rng.below(11) {
         0 => Call::Held,
+        10 => Call::NextNumber,
         1..=3 => {
             let k = match rng.below(4) {
                 0 => rng.pick(&[0, 1, 752, 753, 754, 755, 756, 767, 768, usize::MAX]),

@@ -4,8 +4,8 @@
 //! of each part can be given, and so can the parts.
 
 use bench::compare::{
-    any, codec, collector, compare, model, record, ring, session, stream, text as listed, turns,
-    Compared, Pair, Plan,
+    any, codec, collector, compare, host, model, record, ring, session, stream, text as listed,
+    turns, Compared, Pair, Plan,
 };
 use bench::{gen, own};
 use std::env;
@@ -26,16 +26,17 @@ fn text<C: Debug, A: Debug>(compared: Compared<C, A>) -> Result<u64, String> {
     compared.map_err(|mismatch| mismatch.to_string())
 }
 
-const PARTS: [Part; 11] = [
+const PARTS: [Part; 12] = [
     ("codecs", 2_000_000, |plan| text(codec::against(plan, &mut codec::product))),
     ("session", 1_000_000, |plan| text(session::against(plan, &mut session::product))),
     ("collector", 500_000, |plan| text(collector::against(plan, &mut collector::product))),
     ("model", 500_000, |plan| text(model::against(plan, &mut model::product))),
     ("records", 500_000, |plan| text(record::against(plan, &mut record::product))),
-    ("ring", 300_000, |plan| text(ring::against_product(plan))),
+    ("ring", 300_000, |plan| text(ring::against(plan, &mut ring::product))),
     ("reader", 1_000_000, |plan| text(stream::against(plan, &mut stream::product))),
     ("turns", 100_000, |plan| text(turns::against(plan, &mut turns::product))),
     ("states", 2_000_000, |plan| text(any::against_product(plan))),
+    ("host", 200_000, |plan| text(host::against_product(plan))),
     ("scanlist", 5_000, scanlist),
     ("ringlist", 5_000, ringlist),
 ];

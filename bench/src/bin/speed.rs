@@ -83,7 +83,7 @@ impl Table {
 fn samples(turn: usize) -> Vec<own::Sample> {
     let mut rng = Rng::new(1);
     let sample = |n: usize| own::Sample {
-        start: n % turn == 0,
+        start: n.is_multiple_of(turn),
         quality: rng.below(64) as u8,
         angle: Angle::from_q6((n % turn * 23_040 / turn) as u16),
         distance: Distance::from_q2(rng.word()),

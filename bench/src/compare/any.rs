@@ -45,6 +45,7 @@ macro_rules! smaller_structs {
 }
 smaller_structs! {
     Reader { n, phase, held, skipped }
+    Gatherer { count }
     AngleQ6 { q6 }
     DistanceQ2 { q2 }
     Sample { start, quality, angle, distance }
@@ -173,20 +174,20 @@ const PHASES: [(u8, Phase, usize); 7] = [
     (product::Reader::SCANNING, Phase::Reading(Expected::Samples), 4),
 ];
 
-fn reader_in(reader: &product::Reader) -> Reader {
+pub(super) fn reader_in(reader: &product::Reader) -> Reader {
     let phase = PHASES.iter().find(|phase| phase.0 == reader.phase).unwrap_or(&PHASES[0]);
     let held = &reader.held[..usize::from(reader.n).min(phase.2)];
     Reader::at(phase.1, held, reader.skipped).expect("so many are held")
 }
 
-fn reader_out(reader: &Reader) -> product::Reader {
+pub(super) fn reader_out(reader: &Reader) -> product::Reader {
     let phase = PHASES.iter().find(|phase| phase.1 == reader.phase()).expect("one of seven").0;
     let mut held = [0; 20];
     held[..reader.held().len()].copy_from_slice(reader.held());
     product::Reader { phase, n: reader.held().len() as u8, held, skipped: reader.skipped() }
 }
 
-fn gatherer_in(count: u16, filling: &Cells) -> Gatherer {
+pub(super) fn gatherer_in(count: u16, filling: &Cells) -> Gatherer {
     Gatherer::over(count, &filling.map(Distance::from_q2))
 }
 
@@ -322,7 +323,7 @@ pub fn own(case: &Case) -> Answer {
             |gathered| (gathered.words, gathered.closed),
         ),
         Case::Send { ref session, time, code, ref payload, room } => {
-            let mut after = Session::at(session.last, session.wait, session.awaited != 0);
+            let mut after = session_in(session);
             let mut out = vec![FILL; room];
             let written = after.request(time, code, payload, &mut out);
             let state = if written.is_ok() { session_out(&after) } else { *session };
@@ -330,7 +331,7 @@ pub fn own(case: &Case) -> Answer {
             Answer::new(number(&written), &told, State::Session(state)).bytes(&out)
         }
         Case::ReplyEnded { ref session } => {
-            let mut after = Session::at(session.last, session.wait, session.awaited != 0);
+            let mut after = session_in(session);
             after.reply_ended();
             Answer::new(0, &[], State::Session(session_out(&after)))
         }
@@ -376,7 +377,11 @@ pub fn own(case: &Case) -> Answer {
     }
 }
 
-fn session_out(session: &Session) -> product::Session {
+pub(super) fn session_in(session: &product::Session) -> Session {
+    Session::at(session.last, session.wait, session.awaited != 0)
+}
+
+pub(super) fn session_out(session: &Session) -> product::Session {
     let (last, wait) = (session.last(), session.wait());
     product::Session { last, wait, awaited: session.awaiting().into() }
 }
@@ -454,7 +459,7 @@ pub fn product(case: &Case) -> Answer {
 // Cases.
 
 /// A byte that is mostly a small number.
-fn small(rng: &mut Rng, limit: usize) -> u8 {
+pub(super) fn small(rng: &mut Rng, limit: usize) -> u8 {
     if rng.one_in(4) {
         rng.byte()
     } else {
@@ -462,7 +467,7 @@ fn small(rng: &mut Rng, limit: usize) -> u8 {
     }
 }
 
-fn any_reader(rng: &mut Rng) -> product::Reader {
+pub(super) fn any_reader(rng: &mut Rng) -> product::Reader {
     let known = gen::reader_state(rng);
     let mut held = rng.array();
     let front = known.held.bytes();
@@ -499,7 +504,7 @@ fn any_collector(rng: &mut Rng, last: u64) -> product::Collector {
 }
 
 /// Cells, few of them with a distance, or all random.
-fn any_cells(rng: &mut Rng) -> Cells {
+pub(super) fn any_cells(rng: &mut Rng) -> Cells {
     if rng.one_in(2) {
         return std::array::from_fn(|_| rng.word());
     }

@@ -7,6 +7,8 @@
 pub mod any;
 pub mod codec;
 pub mod collector;
+#[cfg(feature = "product")]
+pub mod host;
 pub mod model;
 pub mod record;
 pub mod ring;

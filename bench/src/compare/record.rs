@@ -15,6 +15,7 @@ pub enum Case {
     Write { number: u32, samples: u16, serial: [u8; 16], cells: [u16; 360], room: usize },
     Read { bytes: Vec<u8> },
     Cell { bytes: Vec<u8>, cell: usize },
+    Serial { bytes: Vec<u8>, room: usize },
 }
 
 impl Smaller for Case {
@@ -25,6 +26,7 @@ impl Smaller for Case {
             }
             Case::Read { bytes } => smaller_case!(Case::Read; bytes),
             Case::Cell { bytes, cell } => smaller_case!(Case::Cell; bytes, cell),
+            Case::Serial { bytes, room } => smaller_case!(Case::Serial; bytes, room),
         }
     }
 }
@@ -47,6 +49,11 @@ pub fn own(case: &Case) -> Answer {
                 record.and_then(|record| record.cells.get(cell).copied().ok_or(Refusal::NoSuch));
             Answer::read(cell.map(|cell| vec![u64::from(cell.q2())]))
         }
+        Case::Serial { ref bytes, room } => Answer::write(room, |out| {
+            let serial = Record::read(bytes)?.serial;
+            *out.first_chunk_mut().ok_or(Refusal::OutputShort)? = serial;
+            Ok(serial.len())
+        }),
     }
 }
 
@@ -73,6 +80,9 @@ pub fn product(case: &Case) -> Answer {
         Case::Cell { ref bytes, cell } => {
             let cell = product::record_cell(bytes, cell);
             Answer::given(cell.refusal, vec![u64::from(cell.distance.q2)])
+        }
+        Case::Serial { ref bytes, room } => {
+            Answer::written(room, |out| product::record_serial(bytes, out))
         }
     }
 }

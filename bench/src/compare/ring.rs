@@ -2,6 +2,7 @@
 
 use super::shrink::Smaller;
 use super::{compare, number, Compared, Pair, Plan, FILL};
+use crate::own::recording::next_number;
 use crate::own::ring::{self, RING_BYTES, SLOTS, SLOT_BYTES};
 use crate::own::{listing, Refusal};
 #[cfg(feature = "product")]
@@ -61,6 +62,7 @@ pub enum Call {
     Turn { i: usize },
     AllRead,
     Erase,
+    NextNumber,
     List { room: usize },
 }
 
@@ -86,7 +88,9 @@ impl Smaller for Call {
             Call::Add { record } => smaller_case!(Call::Add; record),
             Call::Turn { i } => smaller_case!(Call::Turn; i),
             Call::List { room } => smaller_case!(Call::List; room),
-            Call::Held | Call::AllRead | Call::Erase => Box::new(std::iter::empty()),
+            Call::Held | Call::AllRead | Call::Erase | Call::NextNumber => {
+                Box::new(std::iter::empty())
+            }
         }
     }
 }
@@ -102,7 +106,7 @@ impl Smaller for Case {
 pub struct Answer {
     /// The number of the refusal, 0 for none.
     pub refusal: u8,
-    /// How many turns are held, where that was asked; of a listing, how many bytes it has.
+    /// How many turns are held or the next number, where that was asked; of a listing, how many bytes it has.
     pub held: usize,
     /// Where the turn stands in the ring and how long it is; (0, 0) for the empty part.
     pub part: (usize, usize),
@@ -134,6 +138,10 @@ pub fn own(case: &Case) -> Answer {
         }
         Call::AllRead => done = ring::all_read(&bytes),
         Call::Erase => done = ring::erase(&mut bytes),
+        Call::NextNumber => match next_number(&bytes) {
+            Ok(number) => answer.held = number as usize,
+            Err(refusal) => done = Err(refusal),
+        },
         Call::List { room } => {
             let text = listing(&bytes);
             let mut out = vec![FILL; *room];
@@ -152,7 +160,7 @@ pub fn own(case: &Case) -> Answer {
     answer
 }
 
-/// The product's answer. Reading a turn out is none of its C interface: that call is answered as refused by 255.
+/// The product's answer.
 #[cfg(feature = "product")]
 pub fn product(case: &Case) -> Answer {
     let mut bytes = case.image.bytes();
@@ -165,7 +173,16 @@ pub fn product(case: &Case) -> Answer {
         }
         Call::Store { record, k } => product::ring_store(&mut bytes, record, *k),
         Call::Add { record } => product::ring_add(&mut bytes, record),
-        Call::Turn { .. } => u8::MAX,
+        Call::Turn { i } => {
+            let part = product::ring_turn(&bytes, *i);
+            answer.part = (part.offset, part.length);
+            part.refusal
+        }
+        Call::NextNumber => {
+            let number = product::next_number(&bytes);
+            answer.held = number.number as usize;
+            number.refusal
+        }
         Call::AllRead => product::ring_all_read(&bytes),
         Call::Erase => product::ring_erase(&mut bytes),
         Call::List { room } => {
@@ -183,19 +200,6 @@ pub fn product(case: &Case) -> Answer {
 /// Compares the other program with the bench's own.
 pub fn against(plan: &Plan, other: &mut dyn FnMut(&Case) -> Answer) -> Compared<Case, Answer> {
     compare(plan, Pair { part: "ring", make: &gen::ring_case, own: &own, other })
-}
-
-/// Compares the product with the bench's own program, on all calls but the one that C has not.
-#[cfg(feature = "product")]
-pub fn against_product(plan: &Plan) -> Compared<Case, Answer> {
-    let make = |rng: &mut gen::Rng| {
-        let case = gen::ring_case(rng);
-        match case.call {
-            Call::Turn { .. } => Case { call: Call::AllRead, ..case },
-            _ => case,
-        }
-    };
-    compare(plan, Pair { part: "ring", make: &make, own: &own, other: &mut product })
 }
 
 #[cfg(test)]

@@ -3,6 +3,7 @@
 pub mod collector;
 pub mod descriptor;
 pub mod health;
+pub mod host;
 pub mod info;
 pub mod listing;
 pub mod model;
@@ -23,6 +24,7 @@ pub mod units;
 pub use collector::{Collector, Packet};
 pub use descriptor::Descriptor;
 pub use health::Health;
+pub use host::Host;
 pub use info::Info;
 pub use listing::listing;
 pub use model::{Model, State};

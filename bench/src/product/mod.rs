@@ -6,6 +6,7 @@
 
 mod codec;
 mod collector;
+mod host;
 mod model;
 mod reader;
 mod records;
@@ -17,13 +18,16 @@ pub use codec::{
     request_write, Descriptor, DescriptorRead, Health, HealthRead, Info, InfoRead, SampleRead,
 };
 pub use collector::{Collected, Collector, Stage};
+pub use host::{next_number, Heard, Host, HostSent, Turned};
 pub use model::{Asked, HealthSet, Model};
 pub use reader::{Reader, Reading, Told};
 pub use records::{
-    record_cell, record_check, record_count, record_number, record_write, Cell, Count, Number,
+    record_cell, record_check, record_count, record_number, record_serial, record_write, Cell,
+    Count, Number,
 };
 pub use rings::{
-    ring_add, ring_all_read, ring_erase, ring_held, ring_list, ring_store, Held, LISTING_BYTES,
+    ring_add, ring_all_read, ring_erase, ring_held, ring_list, ring_store, ring_turn, Held, Part,
+    LISTING_BYTES,
 };
 pub use session::{Sent, Session};
 pub use turns::{Cells, Gathered, Gatherer, RowGathered};

@@ -45,6 +45,7 @@ extern "C" {
     fn bk_record_number(rec: *const u8, rec_len: usize) -> Number;
     fn bk_record_count(rec: *const u8, rec_len: usize) -> Count;
     fn bk_record_cell(rec: *const u8, rec_len: usize, c: usize) -> Cell;
+    fn bk_record_serial(rec: *const u8, rec_len: usize, out: *mut u8, out_len: usize) -> Written;
 }
 
 /// `bk_record_write`
@@ -82,4 +83,10 @@ pub fn record_count(rec: &[u8]) -> Count {
 pub fn record_cell(rec: &[u8], c: usize) -> Cell {
     // SAFETY: the bytes are lent for the call.
     unsafe { bk_record_cell(rec.as_ptr(), rec.len(), c) }
+}
+
+/// `bk_record_serial`
+pub fn record_serial(rec: &[u8], out: &mut [u8]) -> Written {
+    // SAFETY: both are lent for the call, the output alone for writing.
+    unsafe { bk_record_serial(rec.as_ptr(), rec.len(), out.as_mut_ptr(), out.len()) }
 }

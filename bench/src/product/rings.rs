@@ -15,10 +15,23 @@ pub struct Held {
     pub refusal: u8,
 }
 
+/// `bk_part`
+#[repr(C)]
+#[derive(Clone, Copy, Debug, PartialEq, Eq)]
+pub struct Part {
+    /// Where the part begins in the memory lent, 0 where it is refused.
+    pub offset: usize,
+    /// How long it is, 0 where it is refused.
+    pub length: usize,
+    /// The number of the refusal, 0 for none.
+    pub refusal: u8,
+}
+
 extern "C" {
     fn bk_ring_held(mem: *const u8, mem_len: usize) -> Held;
     fn bk_ring_store(mem: *mut u8, mem_len: usize, rec: *const u8, rec_len: usize, k: usize) -> u8;
     fn bk_ring_add(mem: *mut u8, mem_len: usize, rec: *const u8, rec_len: usize) -> u8;
+    fn bk_ring_turn(mem: *const u8, mem_len: usize, i: usize) -> Part;
     fn bk_ring_all_read(mem: *const u8, mem_len: usize) -> u8;
     fn bk_ring_erase(mem: *mut u8, mem_len: usize) -> u8;
     fn bk_ring_list(mem: *const u8, mem_len: usize, out: *mut u8, out_len: usize) -> Written;
@@ -40,6 +53,12 @@ pub fn ring_store(mem: &mut [u8], rec: &[u8], k: usize) -> u8 {
 pub fn ring_add(mem: &mut [u8], rec: &[u8]) -> u8 {
     // SAFETY: both are lent for the call, the memory alone for writing.
     unsafe { bk_ring_add(mem.as_mut_ptr(), mem.len(), rec.as_ptr(), rec.len()) }
+}
+
+/// `bk_ring_turn`
+pub fn ring_turn(mem: &[u8], i: usize) -> Part {
+    // SAFETY: the memory is lent for the call.
+    unsafe { bk_ring_turn(mem.as_ptr(), mem.len(), i) }
 }
 
 /// `bk_ring_all_read`
