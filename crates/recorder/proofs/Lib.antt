@@ -1,0 +1,2 @@
+-- Laws of the recorder's stores.
+pub mod Made

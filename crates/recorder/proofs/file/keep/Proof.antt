@@ -1,0 +1,84 @@
+-- `recorder::file::keep` is safe and ends.
+use Prim.Native.Nat.{_-_}
+use lib.ListN.{length}
+use mathlib.Core.Path.{_≡_}
+use borrow.Author.Needs.{needs}
+use Rattle.recorder.proofs.file.keep.Statement.{statement}
+use Rattle.recorder.proofs.file.keep.Tie as tie
+
+abbrev Inv-loop : tie.InvT-loop
+Inv-loop fd image₀ rec k₀ image k = length image ≡ length image₀
+
+abbrev μ-loop : tie.MeasureT-loop
+μ-loop fd image₀ rec k₀ image k = 754 - k
+
+loop-holds : tie.Need-loop-holds Inv-loop μ-loop
+loop-holds c = search needs
+
+put-requires : tie.Need-put-requires Inv-loop μ-loop
+put-requires c κs = search needs
+
+same-length : tie.Need-same-length Inv-loop μ-loop
+same-length c = search needs
+
+returns : tie.Need-returns Inv-loop μ-loop
+returns c = search needs
+
+add-k : tie.Need-add-k Inv-loop μ-loop
+add-k c = search needs
+
+loop-less : tie.Need-loop-less Inv-loop μ-loop
+loop-less c = search needs
+
+loop-again : tie.Need-loop-again Inv-loop μ-loop
+loop-again c = search needs
+
+sync-requires : tie.Need-sync-requires Inv-loop μ-loop
+sync-requires c κs = search needs
+
+same-length-2 : tie.Need-same-length-2 Inv-loop μ-loop
+same-length-2 c = search needs
+
+returns-2 : tie.Need-returns-2 Inv-loop μ-loop
+returns-2 c = search needs
+
+put-requires-2 : tie.Need-put-requires-2 Inv-loop μ-loop
+put-requires-2 c κs = search needs
+
+same-length-3 : tie.Need-same-length-3 Inv-loop μ-loop
+same-length-3 c = search needs
+
+returns-3 : tie.Need-returns-3 Inv-loop μ-loop
+returns-3 c = search needs
+
+sync-requires-2 : tie.Need-sync-requires-2 Inv-loop μ-loop
+sync-requires-2 c κs = search needs
+
+same-length-4 : tie.Need-same-length-4 Inv-loop μ-loop
+same-length-4 c = search needs
+
+returns-4 : tie.Need-returns-4 Inv-loop μ-loop
+returns-4 c = search needs
+
+pub keep-spec : {M : Type 1} → statement M
+keep-spec =
+    tie.close
+    (tie.spec
+    Inv-loop
+    μ-loop
+    loop-holds
+    put-requires
+    same-length
+    returns
+    add-k
+    loop-less
+    loop-again
+    sync-requires
+    same-length-2
+    returns-2
+    put-requires-2
+    same-length-3
+    returns-3
+    sync-requires-2
+    same-length-4
+    returns-4)
