@@ -1,4 +1,6 @@
 //! Prints how fast the product and the bench's own program are on the same input: in turns, the best of many runs.
+//!
+//! `speed [NAME...]`: where names are given, the rows with one of them in it alone.
 
 use bench::gen::{self, Rng};
 use bench::own::{self, Angle, Distance, Record, Request, Turn};
@@ -9,6 +11,9 @@ use std::time::{Duration, Instant};
 use std::{env, fs};
 
 const SAMPLES: usize = 200_000;
+/// So much of a stream is read byte by byte, and so much noise: a run is to be short, so that some go undisturbed.
+const BYTE_BY_BYTE: usize = 50_000;
+const NOISE: usize = 250_000;
 /// How many samples a turn has.
 const TURN: usize = 360;
 /// A row is measured for so long, and at least for so many runs of each program.
@@ -40,12 +45,14 @@ fn best(mut programs: [&mut dyn FnMut(); 3]) -> [Duration; 3] {
 /// The table so far.
 #[derive(Default)]
 struct Table {
+    /// Rows without one of these in their names are left out; none leaves out nothing.
+    asked: Vec<String>,
     behind: Vec<String>,
 }
 
 impl Table {
     /// Measures the product and the bench's own program, and prints a row of nanoseconds for each unit. Where a copy
-    /// is given, the row ends with the product's time in copies.
+    /// is given, the row ends with both times in copies.
     fn row(
         &mut self,
         name: &str,
@@ -54,6 +61,9 @@ impl Table {
         product: &mut dyn FnMut(),
         copy: Option<&mut dyn FnMut()>,
     ) {
+        if !self.asked.is_empty() && !self.asked.iter().any(|asked| name.contains(asked)) {
+            return;
+        }
         let copied = copy.is_some();
         let mut nothing = || {};
         let [own, product, copy] = best([own, product, copy.unwrap_or(&mut nothing)]);
@@ -61,9 +71,9 @@ impl Table {
         let ratio = product.as_secs_f64() / own.as_secs_f64();
         let mut notes = String::new();
         if copied {
-            let copies = product.as_secs_f64() / copy.as_secs_f64();
-            notes = format!("{copies:8.1} copies");
-            if copies > COPIES {
+            let copies = |time: Duration| time.as_secs_f64() / copy.as_secs_f64();
+            notes = format!("{:4.1} and {:4.1} copies", copies(own), copies(product));
+            if copies(product) > COPIES {
                 notes += ", over 8";
             }
         }
@@ -128,6 +138,7 @@ fn read(table: &mut Table, name: &str, bytes: &[u8], scanning: bool, copies: boo
     }
     let mut target = vec![0; bytes.len()];
     for (cut, cut_name) in [(1, "1"), (64, "64"), (4_096, "4096"), (bytes.len(), "whole")] {
+        let bytes = if cut == 1 { &bytes[..BYTE_BY_BYTE] } else { bytes };
         let mut by_own = || {
             let mut reader = own;
             for piece in black_box(bytes).chunks(cut) {
@@ -153,7 +164,7 @@ fn read(table: &mut Table, name: &str, bytes: &[u8], scanning: bool, copies: boo
             }
             black_box(reader);
         };
-        let mut copy = || black_box(&mut target).copy_from_slice(black_box(bytes));
+        let mut copy = || black_box(&mut target[..bytes.len()]).copy_from_slice(black_box(bytes));
         let name = format!("reader, {name}, cut {cut_name}");
         let copy: Option<&mut dyn FnMut()> =
             if copies && cut >= 4_096 { Some(&mut copy) } else { None };
@@ -215,7 +226,7 @@ fn records_and_ring(table: &mut Table) {
         },
         None,
     );
-    assert_eq!(bytes, bytes2);
+    record.write(&mut bytes).expect("it fits");
     let bytes = bytes;
     let mut image = vec![0; own::ring::RING_BYTES];
     let mut image2 = image.clone();
@@ -337,11 +348,11 @@ fn main() -> ExitCode {
         memory(which);
         return ExitCode::SUCCESS;
     }
-    let mut table = Table::default();
+    let mut table = Table { asked: words, ..Table::default() };
     println!("{:<34} {:>9} {:>9} {:>7}", "", "own", "product", "ratio");
     let clean = stream(&samples(TURN));
     let mut rng = Rng::new(3);
-    let noise = rng.bytes(clean.len());
+    let noise = rng.bytes(NOISE);
     read(&mut table, "clean", &clean, true, true);
     read(&mut table, "damaged", &damaged(&clean), true, false);
     read(&mut table, "noise", &noise, true, false);
