@@ -9,7 +9,8 @@
  * What the caller owes: pointers are never NULL, also where the length is 0; a pointer and the length behind it name memory that is
  * there; memory lent for writing overlaps nothing else that is lent in the same call.
  *
- * States and answers are structs by value. Every value of a state has a meaning, so a state may come from anywhere. */
+ * States and answers are structs by value. Every value of a state has a meaning, so a state may come from anywhere. examples/record.c shows
+ * the reader, the gatherer, a record and the ring at work. */
 #ifndef BERNKESSEL_H
 #define BERNKESSEL_H
 
@@ -195,7 +196,8 @@ bk_health_answer bk_health_read(const uint8_t *bytes, size_t bytes_len);
 /* The five bytes of a sample. Refuses BK_NOT_A_SAMPLE for an angle or a quality that none has, then BK_OUTPUT_SHORT. */
 bk_written bk_sample_write(bk_sample sample, uint8_t *out, size_t out_len);
 
-/* The three words of a sample, as bk_reader_read writes them; the answer counts words. Refuses as bk_sample_write does. */
+/* The three words of a sample, as bk_reader_read writes them: its angle, its distance, and twice its quality plus S. The answer counts words.
+ * Refuses as bk_sample_write does. */
 bk_written bk_sample_write_words(bk_sample sample, uint16_t *row, size_t row_len);
 
 /* Of exactly BK_SAMPLE_BYTES. Refuses BK_NOT_A_SAMPLE. */
