@@ -45,7 +45,7 @@ impl Sample {
         Sample::front(bytes)
     }
 
-    // Of the first five bytes of a part.
+    // Of the first five bytes of a part. All are read before the checks, so that these can be made together.
     pub fn front(part: &[u8]) -> SampleRead
         ensures { λ r. ⌜ SampleIsRead (take 5 (now (part .entry))) r ⌝ }
     {
@@ -53,14 +53,15 @@ impl Sample {
             return SampleRead::Refused(Refusal::NotASample);
         }
         let b0 = part[0];
+        let b1 = part[1];
+        let angle = angle_of(b1, part[2]);
+        let distance = word::word16(part[3], part[4]);
         if b0 % 2 == b0 / 2 % 2 {
             return SampleRead::Refused(Refusal::NotASample);
         }
-        let b1 = part[1];
         if b1 % 2 == 0 {
             return SampleRead::Refused(Refusal::NotASample);
         }
-        let angle = angle_of(b1, part[2]);
         if Sample::ANGLES <= angle {
             return SampleRead::Refused(Refusal::NotASample);
         }
@@ -68,7 +69,7 @@ impl Sample {
             start: b0 % 2 == 1,
             quality: b0 / 4,
             angle: AngleQ6(angle),
-            distance: DistanceQ2(word::word16(part[3], part[4])),
+            distance: DistanceQ2(distance),
         })
     }
 
