@@ -5,6 +5,7 @@ use mathlib.Core.Path.{_≡_, refl, sym, ap, ap₂, _∙_}
 use mathlib.Core.List.{List}
 use mathlib.Core.Option.{none, some}
 use native.Mathlib.Omega.{arith}
+use Rattle.paper.proofs.Cases.{none-some}
 use Rattle.paper.proofs.Outcome.{gives-one, gives-refuses}
 use Rattle.paper.proofs.Refusals.{refused-one, answered-one}
 use Rattle.paper.specs.Writing.{Writes}
@@ -25,9 +26,6 @@ use Rattle.device.specs.declared.model.State.{State}
 use Rattle.device.specs.declared.model.Model.{Model}
 use Rattle.device.specs.declared.model.Asked.{Asked}
 use Rattle.device.specs.declared.model.HealthSet.{HealthSet}
-
-none-some : {A : Type 0} {a : A} → none ≡ some a → ⊥
-none-some e = let z : _≡_ {A = ℕ} 0 1 = cc in omega arith
 
 -- a completed packet is determined by what it means
 pub completes-one : (r s : Completed) → completes r ≡ completes s → r ≡ s

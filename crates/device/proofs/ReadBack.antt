@@ -15,7 +15,7 @@ use Rattle.paper.specs.Writing.{Writes, over, fitting}
 use Rattle.paper.specs.declared.refusal.Refusal.the-variants.{NoSampleSent}
 use Rattle.paper.specs.declared.refusal.Written.the-variants as writing
 use Rattle.paper.proofs.Outcome.{gives-one, gives-refuses, refuse-not}
-use Rattle.paper.proofs.Writing.{fitting-yes, fitting-no}
+use Rattle.paper.proofs.Writing.{Front, written-front}
 use Rattle.wire.specs.Request.{kindOf}
 use Rattle.wire.specs.Descriptor.{isDescriptor, descriptorIn, descriptorOf, scanDescriptor, infoDescriptor, healthDescriptor}
 use Rattle.wire.specs.Reply.{infoOf, bytesOfInfo, healthOf, bytesOfHealth}
@@ -29,26 +29,6 @@ use Rattle.device.specs.Model.{protected, healthNow, behindDescriptor, s
 use Rattle.device.specs.Promises.{Asking}
 use Rattle.device.specs.declared.model.Model.{Model}
 use Rattle.device.specs.declared.model.Asked.{Asked}
-
--- what stands at the front of the output, where n bytes were written
-pub record Front (o : Outcome (List ℕ)) (n : ℕ) (is : List ℕ) : Type 0 where
-  pub bytes : List ℕ
-  pub given : o ≡ gives bytes
-  pub front : take n is ≡ bytes
-
--- a writer that wrote n bytes gave them, and they stand at the front
-pub written-front : (o : Outcome (List ℕ)) (was is : List ℕ) (n : ℕ) → Writes o was (writing.Bytes n) is → Front o n is
-unfolding written fitting mapped ifGiven over
-written-front (refuses m) was is n w = absurd (gives-refuses (w .answer))
-written-front (gives xs) was is n w = go (ltb (length was) (length xs)) refl
-  where
-    go : (t : Bool) → ltb (length was) (length xs) ≡ t → Front (gives xs) n is
-    go true e = absurd (gives-refuses (w .answer ∙ ap (mapped length) (fitting-no xs (length was) (ltb-true (length was) (length xs) e))))
-    go false e =
-        let f = fitting-yes xs (length was) (ltb-false (length was) (length xs) e) in
-        let size : n ≡ length xs = gives-one (w .answer ∙ ap (mapped length) f) in
-        let all : is ≡ over was xs = w .output ∙ ap (λ (o : Outcome (List ℕ)). ifGiven o (over was) was) f in
-        record { bytes = xs; given = refl; front = ap (take n) all ∙ take-at xs (drop (length xs) was) n (sym size) }
 
 -- a reply behind its descriptor
 behind-front : (d : List ℕ) (o : Outcome (List ℕ)) (n : ℕ) (is : List ℕ) → length d ≡ 7 → Front (behindDescriptor d o) n is

@@ -14,7 +14,7 @@ use Rattle.paper.specs.Words.{valueOf, Each}
 use Rattle.wire.specs.Sample.{angleIn, passes, isSample, sampleIn, sampleOf}
 use Rattle.wire.specs.Reply.{isHealth, healthIn, healthOf}
 use Rattle.wire.specs.Request.{withSum, requestOf}
-use Rattle.wire.proofs.Samples.{each-holds}
+use Rattle.paper.proofs.Cases.{both-hold}
 use Rattle.stream.specs.Readings.{over, sampled, oneSkipped, scan}
 use Rattle.stream.specs.Table.{same}
 use Rattle.turn.specs.Cells.{cellOf}
@@ -34,13 +34,13 @@ same-is [] [] e = refl
 same-is [] (y ∷ ys) e = let z : _≡_ {A = ℕ} 0 1 = cc in absurd (omega arith)
 same-is (x ∷ xs) [] e = let z : _≡_ {A = ℕ} 0 1 = cc in absurd (omega arith)
 same-is (x ∷ xs) (y ∷ ys) e =
-    let b = each-holds (eqb x y) (same xs ys) e in
+    let b = both-hold (eqb x y) (same xs ys) e in
     ap₂ (λ (a : ℕ) (l : List ℕ). a ∷ l) (eqb-true x y (b .0)) (same-is xs ys (b .1))
 
 each-said : (es : List Edge) → holds es ≡ true → Each (λ (e : Edge). e .given ≡ e .said) es
 unfolding holds Each
 each-said [] h = tt
-each-said (e ∷ es) h = let b = each-holds (same (e .given) (e .said)) (holds es) h in (same-is (e .given) (e .said) (b .0), each-said es (b .1))
+each-said (e ∷ es) h = let b = both-hold (same (e .given) (e .said)) (holds es) h in (same-is (e .given) (e .said) (b .0), each-said es (b .1))
 
 pub edge-is : Each (λ (e : Edge). e .given ≡ e .said) table
 edge-is = each-said table edges-hold

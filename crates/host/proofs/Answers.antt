@@ -13,7 +13,7 @@ use Rattle.paper.specs.declared.refusal.Refusal.{Refusal}
 use Rattle.paper.specs.declared.refusal.Refusal.the-variants.{NotARecord}
 use Rattle.paper.specs.declared.refusal.Written.{Written}
 use Rattle.paper.specs.declared.refusal.Written.the-variants as writing
-use Rattle.paper.proofs.Outcome.{gives-one, gives-refuses, refuses-one, refuse-yes, refuse-no}
+use Rattle.paper.proofs.Outcome.{gives-one, gives-refuses, refuses-one, refuse-yes, refuse-no, refused-other, given-one}
 use Rattle.paper.proofs.Writing.{fitting-yes}
 use Rattle.record.specs.Fields.{fieldsOf}
 use Rattle.record.specs.Record.{Turn, fields, countFits, valuesOf, recordOf}
@@ -24,7 +24,6 @@ use Rattle.session.specs.Session.{sending}
 use Rattle.session.specs.Promises.{RequestSent}
 use Rattle.session.specs.declared.Session.{Session}
 use Rattle.session.specs.declared.Sent.{Sent}
-use Rattle.session.proofs.Checks.{refused-other, given-one}
 use Rattle.stream.specs.Promises.{Reads, Tells}
 use Rattle.stream.specs.declared.Reader.{Reader}
 use Rattle.stream.specs.declared.Reading.{Reading}
@@ -34,7 +33,7 @@ use Rattle.turn.specs.Promises.{Fresh, gathering, Gathers, GathersRow}
 use Rattle.turn.specs.declared.gather.Gatherer.{Gatherer}
 use Rattle.turn.specs.declared.gather.Gathered.the-variants as answer
 use Rattle.turn.specs.declared.gather.RowGathered.{RowGathered}
-use Rattle.host.specs.Host.{toldReader, asked, waited, kept, through, readingOf, gathered, recordFor, ready, toldOf}
+use Rattle.host.specs.Host.{asked, waited, kept, through, readingOf, gathered, recordFor, ready, toldOf}
 use Rattle.host.specs.Promises.{Asks, Hears, Turns}
 use Rattle.host.specs.inner.Noted.{waitedAt, isInfo, keptAt}
 use Rattle.host.specs.declared.Host.{Host}
@@ -54,7 +53,7 @@ module _ {h : Host} {time : ℕ} {q : Request} {payload was : List ℕ} {sent : 
   -- sent: the reader and the gatherer are told
   pub asks-yes : {n : ℕ} {t : ReaderTold} {g : Gatherer} → sent .answer ≡ writing.Bytes n → Tells (h .reader) q t → Fresh g
       → Asks h time q payload was (record { host = record { session = sent .session; reader = t .reader; gatherer = g; serial = h .serial }; answer = sent .answer }) is
-  unfolding written asked toldReader
+  unfolding written asked
   asks-yes {n} {t} {g} b v f =
       let o = fitting (length was) (sending (h .session) time (q .0) payload) in
       let e = sym (ap written b) ∙ p .writes .answer in

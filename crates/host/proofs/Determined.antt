@@ -4,6 +4,7 @@ use mathlib.Core.Path.{_≡_, refl, sym, ap, _∙_}
 use mathlib.Core.Option.{Option, none, some}
 use mathlib.Core.List.{List}
 use native.Mathlib.Omega.{arith}
+use Rattle.paper.proofs.Cases.{none-some}
 use Rattle.paper.specs.declared.refusal.Written.{Written}
 use Rattle.paper.proofs.Outcome.{gives-one, gives-refuses}
 use Rattle.paper.proofs.Refusals.{refused-one}
@@ -61,9 +62,6 @@ hears-determined {r = r} {s = s} p q =
           ∙ heard-is s,
       d .1,
     )
-
-none-some : {n : ℕ} → _≡_ {A = Option ℕ} none (some n) → ⊥
-none-some e = let z : _≡_ {A = ℕ} 0 1 = cc in omega arith
 
 some-one : {m n : ℕ} → _≡_ {A = Option ℕ} (some m) (some n) → m ≡ n
 some-one e = cc

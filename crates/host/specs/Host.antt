@@ -1,23 +1,21 @@
 -- The host: one value for session, reader and gatherer, and the serial for the records. What a request, a thing that the reader gives and a
 -- closed turn make of it.
-use Prim.Native.Nat.{ℕ, _+_}
+use Prim.Native.Nat.{ℕ}
 use mathlib.Core.Option.{Option, none, some}
 use mathlib.Core.List.{List, [], _∷_}
-use lib.ListN.{length, replicate}
+use lib.ListN.{replicate}
 use Rattle.paper.specs.Outcome.{Outcome, gives, refuses, ifGiven}
 use Rattle.paper.specs.Refusals.{numberOf}
 use Rattle.paper.specs.Writing.{over}
-use Rattle.framing.specs.Framing as framing
 use Rattle.wire.specs.Request.{kindOf}
 use Rattle.wire.specs.Reply.{infoOf}
 use Rattle.wire.specs.declared.reply.Info.{Info}
 use Rattle.wire.specs.declared.request.Request.{Request}
 use Rattle.session.specs.Session as session
 use Rattle.session.specs.declared.Session.{Session}
-use Rattle.stream.specs.State.{heldOf, written, idle}
+use Rattle.stream.specs.State.{idle}
 use Rattle.stream.specs.Table.{Thing, headed, replied, unread, point}
-use Rattle.stream.specs.Telling.{opens}
-use Rattle.stream.specs.declared.Reader.{Reader}
+use Rattle.stream.specs.Telling.{toldReader}
 use Rattle.stream.specs.declared.Reading.{Reading}
 use Rattle.turn.specs.Gather.{End}
 use Rattle.turn.specs.declared.gather.Gatherer.{Gatherer}
@@ -30,10 +28,6 @@ use Rattle.host.specs.declared.Told.the-variants as told
 -- fresh: session, reader and gatherer are, and no serial is known
 unfoldable pub fresh : Host
 fresh = record { session = session.fresh; reader = idle; gatherer = record { count = 0 }; serial = replicate 16 0 }
-
--- a reader that is told a request of the six
-unfoldable pub toldReader : Reader → Request → Reader
-toldReader s q = ifGiven (opens q) (λ p. written (framing.fresh p) (s .skipped + length (heldOf s))) s
 
 -- a request that is sent tells all of them: bytes held are skipped, and an open turn is dropped
 unfoldable pub asked : Host → ℕ → Request → Host

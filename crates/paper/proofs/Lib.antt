@@ -1,4 +1,6 @@
 pub mod Outcome
+pub mod Cases
+pub mod Nearer
 pub mod Refusals
 pub mod Words
 pub mod Xor

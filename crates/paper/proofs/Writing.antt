@@ -1,15 +1,17 @@
--- How a writer's promise is met: `writes-all`, `writes-short`, `writes-refused`; and of words put at a place: `put-done`, `put-short`.
+-- How a writer's promise is met: `writes-all`, `writes-short`, `writes-refused`; of words put at a place: `put-done`, `put-short`; and what a writer
+-- that wrote n bytes gave: `written-front`.
 use Prim.Native.Nat.{ℕ, suc, _+_, _-_, _<_, _≤_}
 use mathlib.Core.Path.{_≡_, refl, sym, ap, ap₂, _∙_}
+use mathlib.Core.Bool.{Bool, true, false}
 use mathlib.Core.List.{List, [], _∷_, _++_, append-nil, append-assoc}
 use native.Mathlib.Omega.{arith}
 use native.Mathlib.Nat.{le-refl}
 use lib.Dec.{ltb}
 use native.Mathlib.Numerals.{add-one}
 use lib.ListN.{length, take, drop, set, getD, length-append, length-drop, drop-of-length-le}
-use lib.Seq.{take-length, take-all, take-append-seam, drop-append-seam, drop-drop, sets, sets-eq, paste, paste-suc}
+use lib.Seq.{take-length, take-at, take-all, take-append-seam, drop-append-seam, drop-drop, sets, sets-eq, paste, paste-suc}
 use borrow.Rule.Slice.PartMut.{midOf, postOf, putMid}
-use borrow.Author.Tests.{lt-ltb, le-ltb}
+use borrow.Author.Tests.{lt-ltb, le-ltb, ltb-true, ltb-false}
 use Rattle.paper.specs.Outcome.{Outcome, gives, refuses, refuseIf, ifGiven, mapped}
 use Rattle.paper.specs.Refusals.{numberOf, answered, written}
 use Rattle.paper.specs.Words.{bytesOf}
@@ -20,7 +22,7 @@ use Rattle.paper.specs.declared.refusal.Refusal.the-variants.{OutputShor
 use Rattle.paper.specs.declared.refusal.Answer.the-variants as answer
 use Rattle.paper.specs.declared.refusal.Written.{Written}
 use Rattle.paper.specs.declared.refusal.Written.the-variants as writing
-use Rattle.paper.proofs.Outcome.{refuse-yes, refuse-no}
+use Rattle.paper.proofs.Outcome.{gives-one, gives-refuses, refuse-yes, refuse-no}
 use Rattle.paper.proofs.Words.{length-bytes}
 
 pub fitting-yes : (xs : List ℕ) (room : ℕ) → length xs ≤ room → fitting room (gives xs) ≡ gives xs
@@ -151,3 +153,23 @@ put-four v place was b h e =
     let two : place + 2 ≡ suc (suc place) = omega arith in
     let three : place + 3 ≡ suc (suc (suc place)) = omega arith in
     put-done 4 v place was _ h (rw (e, one, two, three))
+
+-- what stands at the front of the output, where n bytes were written
+pub record Front (o : Outcome (List ℕ)) (n : ℕ) (is : List ℕ) : Type 0 where
+  pub bytes : List ℕ
+  pub given : o ≡ gives bytes
+  pub front : take n is ≡ bytes
+
+-- a writer that wrote n bytes gave them, and they stand at the front
+pub written-front : (o : Outcome (List ℕ)) (was is : List ℕ) (n : ℕ) → Writes o was (writing.Bytes n) is → Front o n is
+unfolding written fitting mapped ifGiven over
+written-front (refuses m) was is n w = absurd (gives-refuses (w .answer))
+written-front (gives xs) was is n w = go (ltb (length was) (length xs)) refl
+  where
+    go : (t : Bool) → ltb (length was) (length xs) ≡ t → Front (gives xs) n is
+    go true e = absurd (gives-refuses (w .answer ∙ ap (mapped length) (fitting-no xs (length was) (ltb-true (length was) (length xs) e))))
+    go false e =
+        let f = fitting-yes xs (length was) (ltb-false (length was) (length xs) e) in
+        let size : n ≡ length xs = gives-one (w .answer ∙ ap (mapped length) f) in
+        let all : is ≡ over was xs = w .output ∙ ap (λ (o : Outcome (List ℕ)). ifGiven o (over was) was) f in
+        record { bytes = xs; given = refl; front = ap (take n) all ∙ take-at xs (drop (length xs) was) n (sym size) }

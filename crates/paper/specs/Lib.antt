@@ -1,4 +1,5 @@
 pub mod Outcome
+pub mod Nearer
 pub mod Refusals
 pub mod Words
 pub mod Sum

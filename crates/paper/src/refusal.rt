@@ -24,7 +24,7 @@ pub enum Answer {
     Refused(Refusal),
 }
 
-// What a writer answers: how many bytes it wrote.
+// What a writer answers: how many bytes, or words, it wrote.
 pub enum Written {
     Bytes(usize),
     Refused(Refusal),

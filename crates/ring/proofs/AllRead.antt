@@ -6,7 +6,7 @@ use mathlib.Core.List.{List, [], _∷_, _++_}
 use native.Mathlib.Omega.{arith}
 use lib.ListN.{length, getD, drop}
 use Rattle.record.specs.Record.{reads}
-use Rattle.record.proofs.Reading.{both}
+use Rattle.paper.proofs.Cases.{both-hold}
 use Rattle.ring.specs.Ring.{headOf, held, turnAt, firstTurns, turns}
 use Rattle.ring.specs.Answers.{allRead}
 use Rattle.ring.specs.History.{last}
@@ -25,14 +25,14 @@ all-more ts t p q = all-append ts (t ∷ []) ∙ rw (p, q)
 pub all-at : (ts : List (List ℕ)) (i : ℕ) → allRead ts ≡ true → i < length ts → reads (getD ts i []) ≡ true
 unfolding allRead
 all-at [] i p l = absurd (omega arith)
-all-at (t ∷ ts) zero p l = both (reads t) (allRead ts) p .0
-all-at (t ∷ ts) (suc i) p l = all-at ts i (both (reads t) (allRead ts) p .1) (omega arith)
+all-at (t ∷ ts) zero p l = both-hold (reads t) (allRead ts) p .0
+all-at (t ∷ ts) (suc i) p l = all-at ts i (both-hold (reads t) (allRead ts) p .1) (omega arith)
 
 all-drop : (n : ℕ) (ts : List (List ℕ)) → allRead ts ≡ true → allRead (drop n ts) ≡ true
 unfolding allRead
 all-drop zero ts p = p
 all-drop (suc n) [] p = p
-all-drop (suc n) (t ∷ ts) p = all-drop n ts (both (reads t) (allRead ts) p .1)
+all-drop (suc n) (t ∷ ts) p = all-drop n ts (both-hold (reads t) (allRead ts) p .1)
 
 pub all-last : (n : ℕ) (ts : List (List ℕ)) → allRead ts ≡ true → allRead (last n ts) ≡ true
 unfolding last

@@ -15,7 +15,7 @@ use Rattle.paper.specs.declared.refusal.Answer.{Answer}
 use Rattle.paper.specs.declared.refusal.Answer.the-variants as answer
 use Rattle.paper.specs.declared.refusal.Written.{Written}
 use Rattle.paper.specs.declared.refusal.Written.the-variants as writing
-use Rattle.paper.proofs.Outcome.{refuse-yes, refuse-no, refuse-not, gives-refuses}
+use Rattle.paper.proofs.Outcome.{refuse-yes, refuse-no, refuse-not, gives-refuses, refused-other, given-one}
 use Rattle.wire.specs.Request.{kindOf, requestOf}
 use Rattle.wire.specs.declared.request.Kind.{Kind}
 use Rattle.wire.specs.declared.request.Request.{Request}
@@ -96,16 +96,6 @@ module _ {A : Type 0} (s : Session) (time : ℕ) (k : Kind) (n : ℕ) (next : Ou
       refuse-no _ _ (a .0) ∙ refuse-no _ _ (b .0) ∙ refuse-no _ _ (c .0) ∙ refuse-no _ _ (d .0)
 
 -- ---- a sending's promise
-
-pub refused-other : {A B : Type 0} (f : A → ℕ) (o : Outcome A) (g : A → B) (other : B) {n : ℕ} → refuses n ≡ mapped f o → other ≡ ifGiven o g other
-unfolding mapped ifGiven
-refused-other f (gives a) g other e = absurd (gives-refuses (sym e))
-refused-other f (refuses n) g other e = refl
-
-pub given-one : {A B : Type 0} (f : A → ℕ) (o : Outcome A) (b other : B) {n : ℕ} → gives n ≡ mapped f o → b ≡ ifGiven o (λ _. b) other
-unfolding mapped ifGiven
-given-one f (gives a) b other e = refl
-given-one f (refuses n) b other e = absurd (gives-refuses e)
 
 module _ {s : Session} {time : ℕ} {q : Request} {payload was : List ℕ} {w : Written} {is : List ℕ} (p : Writes (sending s time (q .0) payload) was w is) where
   pub sent-no : {a : Refusal} → w ≡ writing.Refused a → RequestSent s time q payload was record { session = s; answer = w } is

@@ -3,6 +3,7 @@ use Prim.Native.Nat.{ℕ}
 use mathlib.Core.Path.{_≡_, sym, ap, _∙_}
 use mathlib.Core.List.{List}
 use lib.ListN.{length}
+use Rattle.paper.proofs.Outcome.{refused-other}
 use Rattle.paper.specs.Refusals.{written}
 use Rattle.paper.specs.declared.refusal.Refusal.{Refusal}
 use Rattle.paper.specs.declared.refusal.Written.the-variants as writing
@@ -13,7 +14,6 @@ use Rattle.session.specs.declared.Awaited.{Awaited}
 use Rattle.session.specs.declared.Awaited.the-variants.{Nothing}
 use Rattle.session.specs.declared.Session.{Session}
 use Rattle.session.specs.declared.Sent.{Sent}
-use Rattle.session.proofs.Checks.{refused-other}
 
 -- the very session, its last time too, and the output
 pub refused-unchanged : {s : Session} {time : ℕ} {q : Request} {payload was : List ℕ} {r : Sent} {is : List ℕ} {a : Refusal}

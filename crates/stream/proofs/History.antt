@@ -34,7 +34,7 @@ use Rattle.stream.specs.declared.Told.{Told}
 use Rattle.stream.specs.Table.{Event, Thing, headed, replied, unread, point, width, reader, giving, endsCall, rowOf}
 use Rattle.stream.specs.State.{heldOf, meaning, twenty, capped, written, idle}
 use Rattle.stream.specs.Stops.{replyFor, stopOf}
-use Rattle.stream.specs.Telling.{opens, begins}
+use Rattle.stream.specs.Telling.{opens, toldReader, begins}
 use Rattle.stream.specs.Promises.{called, rowGiven, Reads, Tells}
 use Rattle.stream.specs.History.{Seen, word, taken, noticeBy, seenBy, toldBy, seenOf, History, over, reads, tells, Plain}
 use Rattle.stream.proofs.Table.{width-pos, reader-lawful, by-window, one-thing}
@@ -166,7 +166,7 @@ used-refused {s} {t} {z} {xs} {is} q n e g u =
     record { hs = v .hs; ys = v .ys; uses = refusing q (rw e) (v .uses); seen = v .seen; skip = v .skip }
 
 used-tell : {s z : Reader} {xs : List Seen} {is : List (Input Request)} (q : Request) (t : Told) → Tells s q t → Used (t .reader) is xs z → Used s (told q ∷ is) (toldBy q (t .answer) ++ xs) z
-unfolding ifGiven mapped answered toldBy
+unfolding ifGiven mapped answered toldBy toldReader
 used-tell {s} {z} {xs} {is} q t h u = by (opens q) (t .answer) refl (h .answer) (h .reader)
   where
     by : (o : Outcome Phase) (x : Answer) → opens q ≡ o → answered x ≡ mapped (λ p. tt) o → t .reader ≡ ifGiven o (λ p. written (fresh p) (s .skipped + length (heldOf s))) s
@@ -239,7 +239,7 @@ plain-told s (refuses n) h = h
 pub history-plain : {s z : Reader} {is : List (Input Request)} {xs : List Seen} → History s is xs z → Plain s → Plain z
 history-plain over p = p
 history-plain (reads {s} input was row r is h u) p = history-plain u (rw (h .reader) (plain-written (called s input was .result .end) _ (end-few h)))
-history-plain (tells {s} q t h u) p = history-plain u (rw (h .reader) (plain-told s (opens q) p))
+history-plain (tells {s} q t h u) p = history-plain u (rw (h .reader) (unfold toldReader in plain-told s (opens q) p))
 
 -- CUT ANYWHERE: two histories of one stream, from one plain reader, see the same and end in the same reader
 pub cut-anywhere : {s y z : Reader} {is : List (Input Request)} {xs ys : List Seen} → Plain s → History s is xs y → History s is ys z → (xs ≡ ys) × (y ≡ z)

@@ -6,6 +6,7 @@ use Prim.Native.Nat.{ℕ, _≤_}
 use native.Mathlib.Omega.{arith}
 use borrow.Author.Tests.{eqb-true, eq-eqb}
 use lib.ListN.{length}
+use Rattle.paper.proofs.Cases.{both-hold}
 use Rattle.framing.specs.Framing.{more, Lawful, State, fed, test}
 use Rattle.paper.specs.Outcome.{Outcome, gives, refuses, ifGiven}
 use Rattle.framing.specs.Run.{run, events}
@@ -38,16 +39,12 @@ by-window p = record { pos = width-pos p; win = λ xs. refl }
 
 -- ---- the test of two lists
 
-and-both : (a b : Bool) → a && b ≡ true → (a ≡ true) × (b ≡ true)
-and-both true b e = (refl, e)
-and-both false b e = (e, cc)
-
 pub same-true : (xs ys : List ℕ) → same xs ys ≡ true → xs ≡ ys
 unfolding same
 same-true [] [] e = refl
 same-true [] (y ∷ ys) e = cc
 same-true (x ∷ xs) [] e = cc
-same-true (x ∷ xs) (y ∷ ys) e = let h = and-both _ _ e in ap₂ {C = List ℕ} _∷_ (eqb-true x y (h .0)) (same-true xs ys (h .1))
+same-true (x ∷ xs) (y ∷ ys) e = let h = both-hold _ _ e in ap₂ {C = List ℕ} _∷_ (eqb-true x y (h .0)) (same-true xs ys (h .1))
 
 pub same-refl : (xs : List ℕ) → same xs xs ≡ true
 unfolding same

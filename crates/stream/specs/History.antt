@@ -15,6 +15,7 @@ use Rattle.stream.specs.declared.Reading.{Reading}
 use Rattle.stream.specs.declared.Told.{Told}
 use Rattle.stream.specs.Table.{Thing, headed, replied, unread, point}
 use Rattle.stream.specs.State.{meaning, twenty, written}
+use Rattle.stream.specs.Stops.{stopNumber}
 use Rattle.stream.specs.Promises.{Reads, Tells}
 
 -- what a caller sees: a word in its row; a stop of number 2, 3 or 4 with its twenty bytes; that a request was taken
@@ -26,9 +27,9 @@ pub data Seen : Type 0 where
 unfoldable pub noticeBy : Stop → List ℕ → List Seen
 noticeBy AllTaken w = []
 noticeBy NoRoom w = []
-noticeBy Descriptor w = notice 2 w ∷ []
-noticeBy Reply w = notice 3 w ∷ []
-noticeBy BadHealth w = notice 4 w ∷ []
+noticeBy Descriptor w = notice (stopNumber Descriptor) w ∷ []
+noticeBy Reply w = notice (stopNumber Reply) w ∷ []
+noticeBy BadHealth w = notice (stopNumber BadHealth) w ∷ []
 
 -- of an answer of `read`, with the row of words at exit
 unfoldable pub seenBy : Reading → List ℕ → List Seen
@@ -41,9 +42,9 @@ toldBy q (answer.Refused r) = []
 
 -- of what the stream shows by definition
 unfoldable pub seenOf : Shown Request Thing → List Seen
-seenOf (gave headed) = notice 2 (twenty []) ∷ []
-seenOf (gave (replied w)) = notice 3 (twenty w) ∷ []
-seenOf (gave unread) = notice 4 (twenty []) ∷ []
+seenOf (gave headed) = notice (stopNumber Descriptor) (twenty []) ∷ []
+seenOf (gave (replied w)) = notice (stopNumber Reply) (twenty w) ∷ []
+seenOf (gave unread) = notice (stopNumber BadHealth) (twenty []) ∷ []
 seenOf (gave (point m)) = map word (wordsOf m)
 seenOf (asked q) = taken q ∷ []
 

@@ -3,10 +3,9 @@ use mathlib.Core.Path.{_≡_}
 use mathlib.Core.List.{List, [], flatMap}
 use Prim.Native.Nat.{ℕ, _+_}
 use lib.ListN.{length}
-use Rattle.paper.specs.Outcome.{ifGiven, mapped}
+use Rattle.paper.specs.Outcome.{mapped}
 use Rattle.paper.specs.Refusals.{answered}
 use Rattle.paper.specs.Writing.{over}
-use Rattle.framing.specs.Framing.{fresh}
 use Rattle.framing.specs.Run.{skipped}
 use Rattle.framing.specs.Calls.{Answer, call}
 use Rattle.stream.specs.declared.Phase.{Phase}
@@ -15,9 +14,9 @@ use Rattle.stream.specs.declared.Reading.{Reading}
 use Rattle.stream.specs.declared.Told.{Told}
 use Rattle.wire.specs.declared.request.Request.{Request}
 use Rattle.stream.specs.Table.{Event, Thing, reader, giving, rowOf}
-use Rattle.stream.specs.State.{heldOf, meaning, twenty, written, idle}
+use Rattle.stream.specs.State.{meaning, twenty, written, idle}
 use Rattle.stream.specs.Stops.{stopNumber, stopOf, replyFor}
-use Rattle.stream.specs.Telling.{opens}
+use Rattle.stream.specs.Telling.{opens, toldReader}
 
 -- `Reader::new`
 pub record Made (r : Reader) : Type 0 where
@@ -40,7 +39,7 @@ pub record Reads (self : Reader) (input was : List ℕ) (r : Reading) (is : List
   pub reply : r .reply ≡ twenty (replyFor (called self input was .stop))
   pub row : is ≡ over was (rowGiven self input was)
 
--- `Reader::tell`: the bytes held are forgotten and count as skipped; a refusal gives back the very reader
+-- `Reader::tell`
 pub record Tells (self : Reader) (q : Request) (r : Told) : Type 0 where
   pub answer : answered (r .answer) ≡ mapped (λ p. tt) (opens q)
-  pub reader : r .reader ≡ ifGiven (opens q) (λ p. written (fresh p) (self .skipped + length (heldOf self))) self
+  pub reader : r .reader ≡ toldReader self q

@@ -9,6 +9,7 @@ use borrow.Author.Tests.{eqb-true, not-false}
 use lib.Dec.{eqb}
 use lib.ListN.{length, take, drop}
 use lib.Seq.{take-at, drop-at, take-all}
+use Rattle.paper.proofs.Writing.{written-front}
 use Rattle.paper.specs.Outcome.{gives, ifGiven}
 use Rattle.paper.specs.Words.{Each}
 use Rattle.paper.specs.declared.refusal.Written.the-variants.{Bytes}
@@ -24,7 +25,7 @@ use Rattle.wire.specs.declared.reply.Health.{Health}
 use Rattle.wire.specs.Sample.{fit, isSample, passes, sampleIn, sampleOf, bytesOfSample}
 use Rattle.wire.specs.Reply.{healthOf, isHealth}
 use Rattle.wire.specs.Descriptor.{scanDescriptor}
-use Rattle.wire.proofs.Samples.{each-holds}
+use Rattle.paper.proofs.Cases.{both-hold}
 use Rattle.stream.specs.Table.{Event, descriptor, reply, Thing, headed, replied, point, width, says, readHealth, reader, giving, thingsOf, follows}
 use Rattle.stream.specs.State.{meaning}
 use Rattle.stream.specs.Readings.{firstPlace, Scan, scan, sampled, over}
@@ -37,7 +38,7 @@ use Rattle.stream.proofs.inner.Seek.{seeks-scan}
 use Rattle.stream.proofs.Readings.{idle-run, found-run, reply-run, scan-run}
 use Rattle.device.specs.Model.{sendsSamples, sampleSent}
 use Rattle.device.specs.declared.model.Model.{Model}
-use Rattle.device.proofs.ReadBack.{written-front, sample-read}
+use Rattle.device.proofs.ReadBack.{sample-read}
 use Rattle.whole.specs.Line.{Sends, none, one}
 use Rattle.whole.proofs.Given.{reading, given}
 use Rattle.whole.proofs.Things.{allFit}
@@ -80,7 +81,7 @@ info-given w l = reply-given InfoReply w l refl (λ e. refl)
 
 health-long : (w : List ℕ) {h : Health} → healthOf w ≡ gives h → length w ≡ 3
 unfolding healthOf isHealth
-health-long w e = eqb-true (length w) 3 (each-holds (eqb (length w) 3) _ (not-false _ (refuse-not _ _ _ e .0)) .0)
+health-long w e = eqb-true (length w) 3 (both-hold (eqb (length w) 3) _ (not-false _ (refuse-not _ _ _ e .0)) .0)
 
 pub health-given : (w : List ℕ) {h : Health} → healthOf w ≡ gives h → outputs giving (run reader (record { phase = HealthReply; bytes = w }) .steps) ≡ replied w ∷ []
 unfolding width says follows stepOf readHealth ifGiven
@@ -90,7 +91,7 @@ health-given w e = reply-given HealthReply w (health-long w e) (rw e) (λ x. ref
 
 sample-long : (w : List ℕ) {m : Sample} → sampleOf w ≡ gives m → length w ≡ 5
 unfolding sampleOf isSample
-sample-long w e = eqb-true (length w) 5 (each-holds (eqb (length w) 5) (passes w) (not-false _ (refuse-not _ _ _ e .0)) .0)
+sample-long w e = eqb-true (length w) 5 (both-hold (eqb (length w) 5) (passes w) (not-false _ (refuse-not _ _ _ e .0)) .0)
 
 scan-sample : (w bs : List ℕ) (m : Sample) → length w ≡ 5 → sampleOf w ≡ gives m → scan (w ++ bs) ≡ sampled m (scan bs)
 unfolding scan ifGiven

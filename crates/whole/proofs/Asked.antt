@@ -3,18 +3,18 @@ use Prim.Native.Nat.{ℕ, suc, _-_, _≤_}
 use mathlib.Core.Path.{_≡_, refl, sym, ap, _∙_}
 use mathlib.Core.List.{List}
 use lib.ListN.{length, take}
+use Rattle.paper.proofs.Writing.{written-front}
 use Rattle.paper.specs.Outcome.{gives, ifGiven}
 use Rattle.paper.specs.Refusals.{written}
 use Rattle.paper.specs.Writing.{Writes, fitting}
 use Rattle.paper.specs.declared.refusal.Written.the-variants.{Bytes}
-use Rattle.paper.proofs.Outcome.{refuse-not}
+use Rattle.paper.proofs.Outcome.{refuse-not, given-one}
 use Rattle.framing.specs.Framing.{fresh}
 use Rattle.wire.specs.Request.{kindOf, requestOf, packetTime}
 use Rattle.wire.specs.declared.request.Request.{Request}
 use Rattle.session.specs.Session.{inOrder, sending, accepted}
-use Rattle.session.proofs.Checks.{given-one}
 use Rattle.stream.specs.State.{heldOf, meaning, written as writtenReader}
-use Rattle.stream.specs.Telling.{opens}
+use Rattle.stream.specs.Telling.{opens, toldReader}
 use Rattle.stream.specs.declared.Phase.{Phase}
 use Rattle.stream.specs.declared.Reader.{Reader}
 use Rattle.stream.proofs.Table.{width-pos}
@@ -24,8 +24,7 @@ use Rattle.device.specs.Feeding.{feeding, collectedWhole}
 use Rattle.device.specs.declared.collector.Collector.{Collector}
 use Rattle.device.specs.declared.collector.Stage.the-variants.{Empty}
 use Rattle.device.proofs.Collected.{request-collected}
-use Rattle.device.proofs.ReadBack.{written-front}
-use Rattle.host.specs.Host.{toldReader, asked}
+use Rattle.host.specs.Host.{asked}
 use Rattle.host.specs.Promises.{Asks}
 use Rattle.host.specs.declared.Host.{Host}
 use Rattle.host.specs.declared.Asked.{Asked}

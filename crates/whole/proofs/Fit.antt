@@ -10,8 +10,9 @@ use lib.ListN.{length, getD, set, replicate, length-set, length-replicate}
 use Rattle.paper.specs.Words.{Each}
 use Rattle.paper.proofs.Words.{each-append}
 use Rattle.wire.specs.declared.sample.Sample.{Sample}
-use Rattle.wire.proofs.Samples.{each-holds}
-use Rattle.turn.specs.Cells.{cellOf, nearer, withSample, blank, cellsAfter, cellsOf}
+use Rattle.paper.proofs.Cases.{both-hold}
+use Rattle.paper.specs.Nearer.{nearer}
+use Rattle.turn.specs.Cells.{cellOf, withSample, blank, cellsAfter, cellsOf}
 use Rattle.turn.specs.Turns.{Turn, turnOf, since, closedAfter, closedBy}
 
 -- a cell and a distance are 16-bit words
@@ -67,7 +68,7 @@ cells-fit cells (m ∷ ms) w e =
 turn-fit : (os : List Sample) → Each Near os → (t : Bool) → leb 1 (length os) && leb (length os) 8192 ≡ t → Each Fit (cond t (record { count = length os; cells = cellsOf os } ∷ []) [])
 unfolding Each cellsOf blank
 turn-fit os e true h =
-    let l = each-holds (leb 1 (length os)) (leb (length os) 8192) h in
+    let l = both-hold (leb 1 (length os)) (leb (length os) 8192) h in
     let c = cells-fit (replicate 360 0) os (each-zero 360) e in
     (record { one = leb-true 1 (length os) (l .0); most = leb-true (length os) 8192 (l .1); cells = c .0 ∙ length-replicate {A = ℕ} 360 0; words = c .1 }, tt)
 turn-fit os e false h = tt

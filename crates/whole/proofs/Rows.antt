@@ -14,7 +14,7 @@ use Rattle.paper.proofs.Outcome.{gives-one, refuse-no, refuse-not}
 use Rattle.framing.proofs.Giving.{flatMap-append}
 use Rattle.wire.specs.declared.sample.Sample.{Sample}
 use Rattle.wire.specs.Sample.{fit, wordsOf, areWords, sampleFrom, wordsOfSample, sampleOfWords}
-use Rattle.wire.proofs.Samples.{each-holds}
+use Rattle.paper.proofs.Cases.{both-hold, none-some}
 use Rattle.wire.proofs.WriteThenRead.{words-back}
 use Rattle.turn.specs.Turns.{Turn}
 use Rattle.turn.specs.Gather.{Held, End, closes, next, taken, rowReads, samplesIn, rowOf, toldBy, gathered as gatheredBy, countIn}
@@ -47,7 +47,7 @@ row-reads : (ms : List Sample) → allFit ms ≡ true → (rowReads (flatMap wor
 unfolding allFit flatMap wordsOf rowReads samplesIn
 row-reads [] e = (refl, refl)
 row-reads (m ∷ ms) e =
-    let f = each-holds (fit (m .angle .0) (m .quality)) (allFit ms) e in
+    let f = both-hold (fit (m .angle .0) (m .quality)) (allFit ms) e in
     let w = words-read m (f .0) in
     let r = row-reads ms (f .1) in
     (rw (w .0, r .0), rw (w .1, r .1))
@@ -72,7 +72,7 @@ no-words (m ∷ ms) e = let n = ap length e ∙ words-length (m ∷ ms) in absur
 fit-back : (front back : List Sample) → allFit (front ++ back) ≡ true → allFit back ≡ true
 unfolding allFit
 fit-back [] back e = e
-fit-back (m ∷ ms) back e = fit-back ms back (each-holds (fit (m .angle .0) (m .quality)) (allFit (ms ++ back)) e .1)
+fit-back (m ∷ ms) back e = fit-back ms back (both-hold (fit (m .angle .0) (m .quality)) (allFit (ms ++ back)) e .1)
 
 -- ---- how far a call goes
 
@@ -84,9 +84,6 @@ record Split (h : Held) (k : ℕ) (ms : List Sample) : Type 0 where
   words : taken h k ms .words ≡ k + 3 * length front
   all : taken h k ms .turn ≡ none → back ≡ []
 
-some-none : {n : ℕ} → _≡_ {A = Option ℕ} (some n) none → ⊥
-some-none e = let z : _≡_ {A = ℕ} 0 1 = cc in omega arith
-
 split-step : (h : Held) (k : ℕ) (m : Sample) (ms : List Sample) → Split (next h m) (k + 3) ms → (b : Bool) → closes (h .count) m ≡ b → Split h k (m ∷ ms)
 split-step h k m ms s true e =
     let on = taken-closed h m ms k e in
@@ -95,7 +92,7 @@ split-step h k m ms s true e =
       back = ms;
       is = refl;
       words = ap (λ (x : End). x .words) on;
-      all = λ t. absurd (some-none (sym (ap (λ (x : End). x .turn) on) ∙ t));
+      all = λ t. absurd (none-some (sym t ∙ ap (λ (x : End). x .turn) on));
     }
 split-step h k m ms s false e =
     let on = taken-more h m ms k e in

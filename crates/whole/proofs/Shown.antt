@@ -6,7 +6,7 @@ use mathlib.Core.List.{List, [], _∷_, _++_, append-nil, append-assoc}
 use native.Mathlib.Omega.{arith}
 use lib.ListN.{length}
 use Rattle.paper.specs.Outcome.{gives}
-use Rattle.wire.proofs.Samples.{each-holds}
+use Rattle.paper.proofs.Cases.{both-hold}
 use Rattle.record.specs.Record.{reads}
 use Rattle.ring.specs.Ring.{headOf, held, turns}
 use Rattle.ring.specs.Answers.{allRead, counting}
@@ -24,7 +24,7 @@ use Rattle.whole.specs.Line.{wholly}
 pub wholly-proper : (recs : List (List ℕ)) → allRead recs ≡ true → Proper (wholly recs)
 unfolding wholly Proper allRead
 wholly-proper [] e = tt
-wholly-proper (rec ∷ recs) e = let b = each-holds (reads rec) (allRead recs) e in (b .0, omega arith, wholly-proper recs (b .1))
+wholly-proper (rec ∷ recs) e = let b = both-hold (reads rec) (allRead recs) e in (b .0, omega arith, wholly-proper recs (b .1))
 
 pub wholly-kept : (ts recs : List (List ℕ)) → kept ts (wholly recs) ≡ ts ++ recs
 unfolding wholly kept

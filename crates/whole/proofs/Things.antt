@@ -8,7 +8,7 @@ use lib.ListN.{length}
 use Rattle.framing.specs.Calls.{outputs}
 use Rattle.wire.specs.declared.sample.Sample.{Sample}
 use Rattle.wire.specs.Sample.{fit, wordsOf}
-use Rattle.wire.proofs.Samples.{each-holds}
+use Rattle.paper.proofs.Cases.{both-hold}
 use Rattle.stream.specs.Table.{Thing, headed, replied, unread, point, rowOf}
 use Rattle.host.specs.Host.{kept, through}
 
@@ -54,7 +54,7 @@ scans-append (unread ∷ xs) ys = scans-append xs ys
 scans-append (point m ∷ xs) ys = and-on (fit (m .angle .0) (m .quality)) (scans (xs ++ ys)) (scans xs) (scans ys) (scans-append xs ys)
 
 pub scans-split : (xs ys : List Thing) → scans (xs ++ ys) ≡ true → (scans xs ≡ true) × (scans ys ≡ true)
-scans-split xs ys e = each-holds (scans xs) (scans ys) (scans-append xs ys ∙ e)
+scans-split xs ys e = both-hold (scans xs) (scans ys) (scans-append xs ys ∙ e)
 
 -- their words are those of their samples
 pub row-points : (xs : List Thing) → flatMap rowOf xs ≡ flatMap wordsOf (pointsOf xs)
@@ -71,7 +71,7 @@ points-fit [] e = refl
 points-fit (headed ∷ xs) e = points-fit xs e
 points-fit (replied w ∷ xs) e = cc
 points-fit (unread ∷ xs) e = points-fit xs e
-points-fit (point m ∷ xs) e = let f = each-holds (fit (m .angle .0) (m .quality)) (scans xs) e in rw (f .0, points-fit xs (f .1))
+points-fit (point m ∷ xs) e = let f = both-hold (fit (m .angle .0) (m .quality)) (scans xs) e in rw (f .0, points-fit xs (f .1))
 
 -- and the serial stays
 pub scans-keep : (serial : List ℕ) (xs : List Thing) → scans xs ≡ true → through kept serial xs ≡ serial
@@ -80,7 +80,7 @@ scans-keep serial [] e = refl
 scans-keep serial (headed ∷ xs) e = scans-keep serial xs e
 scans-keep serial (replied w ∷ xs) e = cc
 scans-keep serial (unread ∷ xs) e = scans-keep serial xs e
-scans-keep serial (point m ∷ xs) e = scans-keep serial xs (each-holds (fit (m .angle .0) (m .quality)) (scans xs) e .1)
+scans-keep serial (point m ∷ xs) e = scans-keep serial xs (both-hold (fit (m .angle .0) (m .quality)) (scans xs) e .1)
 
 -- samples alone
 pub points-map : (ms : List Sample) → pointsOf (map point ms) ≡ ms
@@ -91,4 +91,4 @@ points-map (m ∷ ms) = ap {B = List Sample} (λ l. m ∷ l) (points-map ms)
 pub scans-map : (ms : List Sample) → allFit ms ≡ true → scans (map point ms) ≡ true
 unfolding scans allFit
 scans-map [] e = refl
-scans-map (m ∷ ms) e = let f = each-holds (fit (m .angle .0) (m .quality)) (allFit ms) e in rw (f .0, scans-map ms (f .1))
+scans-map (m ∷ ms) e = let f = both-hold (fit (m .angle .0) (m .quality)) (allFit ms) e in rw (f .0, scans-map ms (f .1))

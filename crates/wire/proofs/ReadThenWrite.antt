@@ -39,7 +39,8 @@ use Rattle.wire.specs.declared.sample.Sample.{Sample}
 use Rattle.wire.specs.declared.descriptor.Descriptor.{Descriptor}
 use Rattle.wire.specs.declared.reply.Info.{Info}
 use Rattle.wire.specs.declared.reply.Health.{Health}
-use Rattle.wire.proofs.Samples.{each-holds, fit-both, bytes-fit, words-fit}
+use Rattle.wire.proofs.Samples.{fit-both, bytes-fit, words-fit}
+use Rattle.paper.proofs.Cases.{both-hold}
 use Rattle.wire.proofs.Descriptors.{bytes-given}
 use Rattle.wire.proofs.Replies.{health-fit}
 
@@ -53,9 +54,9 @@ pub record Passes (xs : List ℕ) : Type 0 where
 pub passes-means : (xs : List ℕ) → isSample xs ≡ true → Passes xs
 unfolding isSample passes
 passes-means xs e =
-    let a = each-holds (eqb (length xs) 5) _ e in
-    let b = each-holds (not (eqb (getD xs 0 0 % 2) (getD xs 0 0 / 2 % 2)) && not (eqb (getD xs 1 0 % 2) 0)) _ (a .1) in
-    let c = each-holds (not (eqb (getD xs 0 0 % 2) (getD xs 0 0 / 2 % 2))) _ (b .0) in
+    let a = both-hold (eqb (length xs) 5) _ e in
+    let b = both-hold (not (eqb (getD xs 0 0 % 2) (getD xs 0 0 / 2 % 2)) && not (eqb (getD xs 1 0 % 2) 0)) _ (a .1) in
+    let c = both-hold (not (eqb (getD xs 0 0 % 2) (getD xs 0 0 / 2 % 2))) _ (b .0) in
     record {
       five = eqb-true (length xs) 5 (a .0);
       differs = eqb-false (getD xs 0 0 % 2) (getD xs 0 0 / 2 % 2) (not-true _ (c .0));
@@ -105,7 +106,7 @@ pub words-again : (ws : List ℕ) (m : Sample) → sampleOfWords ws ≡ gives m 
 unfolding sampleOfWords sampleFrom areWords wordsOf
 words-again ws m e =
     let p = refuse-not (not (areWords ws)) (numberOf NotASample) (gives (sampleFrom ws)) e in
-    let a = each-holds (eqb (length ws) 3) _ (not-false _ (p .0)) in
+    let a = both-hold (eqb (length ws) 3) _ (not-false _ (p .0)) in
     rw (← gives-one (p .1))
     (words-fit (sampleFrom ws) (sym (a .1)) refl refl
     ∙ ap gives (rw (mark-again (getD ws 2 0)) (listed-whole 3 ws (eqb-true (length ws) 3 (a .0)))))
@@ -125,9 +126,9 @@ pub descriptor-again : (xs : List ℕ) (d : Descriptor) → Bytes xs → descrip
 unfolding descriptorOf descriptorIn isDescriptor
 descriptor-again xs d h e =
     let p = refuse-not (not (isDescriptor xs)) (numberOf NotADescriptor) (gives (descriptorIn xs)) e in
-    let a = each-holds (eqb (length xs) 7 && eqb (getD xs 0 0) startByte && eqb (getD xs 1 0) flagByte) _ (not-false _ (p .0)) in
-    let b = each-holds (eqb (length xs) 7 && eqb (getD xs 0 0) startByte) _ (a .0) in
-    let c = each-holds (eqb (length xs) 7) _ (b .0) in
+    let a = both-hold (eqb (length xs) 7 && eqb (getD xs 0 0) startByte && eqb (getD xs 1 0) flagByte) _ (not-false _ (p .0)) in
+    let b = both-hold (eqb (length xs) 7 && eqb (getD xs 0 0) startByte) _ (a .0) in
+    let c = both-hold (eqb (length xs) 7) _ (b .0) in
     let m = leb-true (wordIn xs / lengths) 1 (a .1) in
     let l : wordIn xs % lengths < lengths = omega arith in
     rw (← gives-one (p .1))
@@ -156,7 +157,7 @@ pub health-again : (xs : List ℕ) (r : Health) → Bytes xs → healthOf xs ≡
 unfolding healthOf healthIn isHealth
 health-again xs r h e =
     let p = refuse-not (not (isHealth xs)) (numberOf NotAReply) (gives (healthIn xs)) e in
-    let a = each-holds (eqb (length xs) 3) _ (not-false _ (p .0)) in
+    let a = both-hold (eqb (length xs) 3) _ (not-false _ (p .0)) in
     rw (← gives-one (p .1))
     (health-fit (healthIn xs) (leb-true (getD xs 0 0) errorStatus (a .1))
     ∙ ap gives

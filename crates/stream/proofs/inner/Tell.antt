@@ -16,7 +16,7 @@ use Rattle.stream.specs.declared.Reader.{Reader}
 use Rattle.stream.specs.declared.Told.{Told}
 use Rattle.stream.specs.Table.{width}
 use Rattle.stream.specs.State.{heldOf, capped, written}
-use Rattle.stream.specs.Telling.{opening, opens}
+use Rattle.stream.specs.Telling.{opening, opens, toldReader}
 use Rattle.stream.specs.Promises.{Tells}
 use Rattle.stream.specs.inner.Hold.{holding}
 use Rattle.stream.specs.inner.Tell.{taken, Wide}
@@ -31,13 +31,13 @@ turned-to self p w h k r a b c d = rw (d, c, b, a .is)
 
 -- a kind that is taken, and one that is refused
 pub tells-taken : (self : Reader) (q : Request) (p : Phase) (k : Kind) {r : Told} {kind : Kind} → KindGiven q kind → kind ≡ k → opening k ≡ gives p → r ≡ taken self p → Tells self q r
-unfolding taken answered mapped ifGiven
+unfolding taken answered mapped ifGiven toldReader
 tells-taken self q p k g e f h =
     let o : opens q ≡ gives p = ap opening (sym (g .answer) ∙ e) ∙ f in
     record { answer = ap (λ (x : Told). answered (x .answer)) h ∙ rw o; reader = ap (λ (x : Told). x .reader) h ∙ rw o }
 
 pub tells-refused : (self : Reader) (q : Request) {kind : Kind} → KindGiven q kind → kind ≡ Other → Tells self q (record { reader = self; answer = Refused CodeNotPermitted })
-unfolding opening answered mapped ifGiven
+unfolding opening answered mapped ifGiven toldReader
 tells-refused self q g e =
     let o : opens q ≡ refuses (numberOf CodeNotPermitted) = ap opening (sym (g .answer) ∙ e) in
     record { answer = rw o; reader = rw o }
