@@ -9,6 +9,7 @@ use native.Mathlib.Omega.{arith}
 use borrow.Author.Tests.{leb-true}
 use lib.Dec.{leb}
 use lib.ListN.{length, take, drop}
+use Rattle.paper.proofs.Cases.{both-hold, none-some}
 use Rattle.paper.specs.Outcome.{Outcome, gives, refuses, mapped}
 use Rattle.record.proofs.Reading.{reads-length}
 use Rattle.ring.specs.Ring.{slots, headOf, slotOf, slotStart, turnAt}
@@ -51,16 +52,9 @@ module _ {mem : List ℕ} {i : ℕ} {r : BkPart} (p : RingTurn mem i r) where
 
 -- ---- a turn that closed
 
-and-right : (a b : Bool) → (a && b) ≡ true → b ≡ true
-and-right true b e = e
-and-right false b e = let z : _≡_ {A = ℕ} 0 1 = cc in absurd (omega arith)
-
 closing : (n : ℕ) (m : Sample) → closes n m ≡ true → 1 ≤ n
 unfolding closes
-closing n m e = leb-true 1 n (and-right (m .start) (leb 1 n) e)
-
-none-some : {n : ℕ} → _≡_ {A = Option ℕ} none (some n) → ⊥
-none-some e = let z : _≡_ {A = ℕ} 0 1 = cc in omega arith
+closing n m e = leb-true 1 n (both-hold (m .start) (leb 1 n) e .1)
 
 some-one : {m n : ℕ} → _≡_ {A = Option ℕ} (some m) (some n) → m ≡ n
 some-one e = cc
