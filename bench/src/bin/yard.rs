@@ -330,3 +330,41 @@ fn main() -> ExitCode {
         }
     }
 }
+
+#[cfg(test)]
+mod tests {
+    use super::*;
+
+    #[test]
+    fn lines_of_the_log() {
+        assert!(step(r#"pwrite64(3, "\x0a", 1, 770) = 1"#) == Some(Step::Write(770, 10)));
+        assert!(step("fsync(3)                                = 0") == Some(Step::Sync));
+        for other in [
+            "fsync(3) = -1 EIO (Input/output error)",
+            "+++ exited with 0 +++",
+            r#"pwrite64(3, "\x0a", 1, 770) = -1 ENOSPC (..)"#,
+        ] {
+            assert!(step(other).is_none(), "{other}");
+        }
+    }
+
+    /// A supply that fails nowhere leaves what was stored; one that loses a byte under a head is seen.
+    #[test]
+    fn a_lost_byte_is_seen() {
+        let mut rng = Rng::new(1);
+        let before = vec![0; ring::RING_BYTES];
+        let expected = Expected::new(&before, &scan(&mut rng, 3));
+        let writes: Vec<Step> =
+            expected.stores.iter().map(|&(place, byte)| Step::Write(place, byte)).collect();
+        let mut image = before.clone();
+        for (n, &(place, byte)) in (1..).zip(&expected.stores) {
+            image[place] = byte;
+            assert!(expected.is_kept(&image, n / STORES));
+        }
+        assert_eq!(expected.made(&before, &image), Some(3 * STORES));
+        assert!(pull(&writes, &before, &expected, 200, &mut rng) > 0);
+        image[5] ^= 1;
+        assert!(!expected.is_kept(&image, 3));
+        assert_eq!(expected.made(&before, &image), None);
+    }
+}

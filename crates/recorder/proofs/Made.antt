@@ -1,23 +1,25 @@
--- A store of a ring as one byte and its place: `made-done` and `made-refused`.
+-- A store of a ring as one byte and its place: `made-done` and `made-refused`; and what it leaves in the memory: `stored-is`, `stores-on`.
 use Prim.Native.Nat.{ℕ, _+_, _*_, _%_, _≤_, _<_}
 use mathlib.Core.Path.{_≡_, refl, sym, ap, _∙_}
+use mathlib.Core.Bool.{true, false}
 use mathlib.Core.Logic.{⊎-elim}
 use mathlib.Core.List.{List}
 use native.Mathlib.Omega.{arith}
+use native.Mathlib.Numerals.{add-one}
 use borrow.Author.Tests.{lt-ltb, le-ltb}
-use lib.ListN.{length, getD, set, List·getD-eq-default}
+use lib.ListN.{length, getD, List·getD-eq-default}
 use lib.Seq.{getD-set-same}
-use Rattle.paper.specs.Outcome.{gives, refuses, ifGiven, mapped}
-use Rattle.paper.specs.Refusals.{numberOf}
+use Rattle.paper.specs.Outcome.{gives, mapped}
 use Rattle.paper.specs.declared.refusal.Refusal.{Refusal}
 use Rattle.paper.specs.declared.refusal.Answer.{Answer}
 use Rattle.paper.specs.declared.refusal.Answer.the-variants as answer
-use Rattle.ring.specs.Ring.{slots, slotStart, headOf, IsRing, nextSlot, touched, put, store}
+use Rattle.ring.specs.Ring.{slots, headOf, IsRing, touched, put, store, stores}
 use Rattle.ring.specs.Answers.{storing}
 use Rattle.ring.specs.Promises.{StoreGiven}
 use Rattle.ring.proofs.Slots.{less-or-not}
-use Rattle.ring.proofs.Answered.{means-done, means-refused, storing-means, given-yes, given-no}
+use Rattle.ring.proofs.Answered.{means-done, means-refused, storing-means, given-yes, mapped-gives}
 use Rattle.recorder.specs.Store.{Write, storedOf, StoreMade}
+use Rattle.recorder.specs.declared.store.Stored.{Stored}
 use Rattle.recorder.specs.declared.store.Stored.the-variants as stored
 
 pub head-none : (mem : List ℕ) → length mem ≡ 0 → 0 ≡ headOf mem
@@ -65,3 +67,23 @@ module _ {was rec is : List ℕ} {k : ℕ} {a : Answer} (p : StoreGiven slots wa
     answer = rw (means-refused (p .answer) e);
     memory = p .memory;
   }
+
+-- a byte was answered: the store is made
+pub stored-is : {was rec is : List ℕ} {k p b : ℕ} {r : Stored} → StoreMade slots was rec k r is → r ≡ stored.Byte p b → is ≡ store slots was rec k
+unfolding storedOf
+stored-is {was} {rec} {is} {k} {p} {b} m e =
+    let g : storedOf (stored.Byte p b) ≡ gives (record { place = p; byte = b }) = refl in
+    let w = mapped-gives _ (storing slots was rec k) (sym (m .answer) ∙ ap storedOf e ∙ g) in
+    m .memory ∙ given-yes (λ (t : Unit {0}). store slots was rec k) was (w .1)
+
+-- one store more
+pub stores-on : (was rec : List ℕ) (k : ℕ) {mid is : List ℕ} → mid ≡ stores slots was rec k → is ≡ store slots mid rec k → is ≡ stores slots was rec (k + 1)
+unfolding stores
+stores-on was rec k e f = rw add-one (rw e at f)
+
+-- the last store
+pub stores-last : (was rec : List ℕ) (k : ℕ) {mid is : List ℕ} → k ≡ 754 → mid ≡ stores slots was rec k → is ≡ store slots mid rec 754 → is ≡ stores slots was rec 755
+stores-last was rec k e f g = stores-on was rec 754 (rw e at f) g
+
+pub never : {A : Type 0} → false ≡ true → A
+never e = let z : _≡_ {A = ℕ} 0 1 = cc in absurd (omega arith)

@@ -1,9 +1,12 @@
 // The ring's file: made where it is missing, and stored into byte by byte.
 use crate::store::Stored;
 use crate::store::make;
+ghost use mathlib.Core.Path.{_≡_};
+ghost use mathlib.Core.Bool.{true};
 ghost use Prim.Native.Nat.{_≤_};
 ghost use lib.ListN.{length};
 ghost use Rattle.io.specs.Counts.{Counts};
+ghost use Rattle.ring.specs.Ring.{slots, store, stores};
 
 const MEMORY: usize = 1 + 768 * ring::SLOTS;
 
@@ -17,7 +20,9 @@ fn write_at(fd: i32, place: u16, b: u8) -> bool {
 }
 
 // Store k of a record, in the image and then in the file.
-fn put(fd: i32, image: &mut [u8], rec: &[u8], k: usize) -> bool {
+fn put(fd: i32, image: &mut [u8], rec: &[u8], k: usize) -> bool
+    ensures { λ r. ⌜ (r ≡ true → now (image .exit) ≡ store slots (now (image .entry)) (now (rec .entry)) k) ⌝ }
+{
     let s = make(image, rec, k);
     match s {
         Stored::Byte(place, b) => write_at(fd, place, b),
@@ -26,7 +31,9 @@ fn put(fd: i32, image: &mut [u8], rec: &[u8], k: usize) -> bool {
 }
 
 // Adds a record by its 755 stores in order. Its bytes are on the disk before the head is stored, and the head before anything else.
-pub fn keep(fd: i32, image: &mut [u8], rec: &[u8]) -> bool {
+pub fn keep(fd: i32, image: &mut [u8], rec: &[u8]) -> bool
+    ensures { λ r. ⌜ (r ≡ true → now (image .exit) ≡ stores slots (now (image .entry)) (now (rec .entry)) 755) ⌝ }
+{
     let mut k: usize = 0;
     while k < 754 {
         if !put(fd, image, rec, k) {

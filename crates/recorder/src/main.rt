@@ -5,6 +5,7 @@ mod scan;
 mod store;
 
 use libc::STDERR_FILENO;
+use libc::STDIN_FILENO;
 use libc::STDOUT_FILENO;
 use paper::refusal::Answer;
 
@@ -41,6 +42,16 @@ fn usage() {
     );
 }
 
+// Whether standard input can be read at all; where not, why is said, and no file is made.
+fn is_readable() -> bool {
+    let mut none = [0u8; 1];
+    if libc::read(STDIN_FILENO, &mut none[..0]) < 0 {
+        os::fail(b"recorder: standard input");
+        return false;
+    }
+    true
+}
+
 fn main() {
     if os::arg_count() > 3 {
         usage();
@@ -55,6 +66,9 @@ fn main() {
     }
     if !given.reads {
         usage();
+        return;
+    }
+    if !is_readable() {
         return;
     }
     let serial = given.bytes;

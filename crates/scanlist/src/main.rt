@@ -122,6 +122,16 @@ fn usage() {
     );
 }
 
+// Whether standard input can be read at all; where not, why is said.
+fn is_readable() -> bool {
+    let mut none = [0u8; 1];
+    if libc::read(STDIN_FILENO, &mut none[..0]) < 0 {
+        os::fail(b"scanlist: standard input");
+        return false;
+    }
+    true
+}
+
 fn main() {
     let code = argument::code_of(1);
     let cut = argument::number(2, 1, MOST_CUT, CUT);
@@ -142,5 +152,7 @@ fn main() {
         usage();
         return;
     }
-    run(b, cut, room);
+    if is_readable() {
+        run(b, cut, room);
+    }
 }
