@@ -753,8 +753,9 @@ pub fn ring_case(rng: &mut Rng) -> ring::Case {
         7 => Call::AllRead,
         8 => Call::Erase,
         _ => {
+            // Mostly what is needed; or what the header says is always enough.
             let needed = listing(&image.bytes()).len();
-            Call::List { room: room(rng, needed) }
+            Call::List { room: if rng.one_in(4) { 1_710 } else { room(rng, needed) } }
         }
     };
     Case { image, call }

@@ -173,7 +173,7 @@ pub fn own(case: &Case) -> Answer {
 #[cfg(feature = "product")]
 pub fn product(case: &Case) -> Answer {
     let sample = product::Sample::new;
-    let sample_read = |product::SampleRead { sample: s, refusal }| {
+    let sample_read = |product::SampleAnswer { sample: s, refusal }| {
         let numbers = [s.start.into(), s.quality.into(), s.angle.q6, s.distance.q2];
         Answer::given(refusal, numbers.map(u64::from).to_vec())
     };
@@ -182,7 +182,7 @@ pub fn product(case: &Case) -> Answer {
             Answer::written(room, |out| product::request_write(code, payload, out))
         }
         Case::ReadDescriptor { ref bytes } => {
-            let product::DescriptorRead { descriptor: d, refusal } =
+            let product::DescriptorAnswer { descriptor: d, refusal } =
                 product::Descriptor::read(bytes);
             Answer::given(refusal, vec![d.length.into(), d.mode.into(), d.kind.into()])
         }
@@ -197,7 +197,7 @@ pub fn product(case: &Case) -> Answer {
             Answer::written(room, |out| product::Info::new(fields).write(out))
         }
         Case::ReadHealth { ref bytes } => {
-            let product::HealthRead { health: h, refusal } = product::Health::read(bytes);
+            let product::HealthAnswer { health: h, refusal } = product::Health::read(bytes);
             Answer::given(refusal, vec![h.status.into(), h.error.into()])
         }
         Case::WriteHealth { status, error, room } => {

@@ -14,20 +14,20 @@ pub struct Descriptor {
     pub kind: u8,
 }
 
-/// `bk_descriptor_read`
+/// `bk_descriptor_answer`
 #[repr(C)]
 #[derive(Clone, Copy, Debug, PartialEq, Eq)]
-pub struct DescriptorRead {
+pub struct DescriptorAnswer {
     /// What was read, zeros where it is refused.
     pub descriptor: Descriptor,
     /// The number of the refusal, 0 for none.
     pub refusal: u8,
 }
 
-/// `bk_sample_read`
+/// `bk_sample_answer`
 #[repr(C)]
 #[derive(Clone, Copy, Debug, PartialEq, Eq)]
-pub struct SampleRead {
+pub struct SampleAnswer {
     /// What was read, zeros where it is refused.
     pub sample: Sample,
     /// The number of the refusal, 0 for none.
@@ -66,10 +66,10 @@ impl Info {
     }
 }
 
-/// `bk_info_read`
+/// `bk_info_answer`
 #[repr(C)]
 #[derive(Clone, Copy, Debug, PartialEq, Eq)]
-pub struct InfoRead {
+pub struct InfoAnswer {
     /// What was read, zeros where it is refused.
     pub info: Info,
     /// The number of the refusal, 0 for none.
@@ -86,10 +86,10 @@ pub struct Health {
     pub status: u8,
 }
 
-/// `bk_health_read`
+/// `bk_health_answer`
 #[repr(C)]
 #[derive(Clone, Copy, Debug, PartialEq, Eq)]
-pub struct HealthRead {
+pub struct HealthAnswer {
     /// What was read, zeros where it is refused.
     pub health: Health,
     /// The number of the refusal, 0 for none.
@@ -109,16 +109,16 @@ mod c {
         ) -> Written;
         pub fn bk_descriptor_write(descriptor: Descriptor, out: *mut u8, out_len: usize)
             -> Written;
-        pub fn bk_descriptor_read(bytes: *const u8, bytes_len: usize) -> DescriptorRead;
+        pub fn bk_descriptor_read(bytes: *const u8, bytes_len: usize) -> DescriptorAnswer;
         pub fn bk_info_write(info: Info, out: *mut u8, out_len: usize) -> Written;
-        pub fn bk_info_read(bytes: *const u8, bytes_len: usize) -> InfoRead;
+        pub fn bk_info_read(bytes: *const u8, bytes_len: usize) -> InfoAnswer;
         pub fn bk_health_write(health: Health, out: *mut u8, out_len: usize) -> Written;
-        pub fn bk_health_read(bytes: *const u8, bytes_len: usize) -> HealthRead;
+        pub fn bk_health_read(bytes: *const u8, bytes_len: usize) -> HealthAnswer;
         pub fn bk_sample_write(sample: Sample, out: *mut u8, out_len: usize) -> Written;
         pub fn bk_sample_write_words(sample: Sample, row: *mut u16, row_len: usize) -> Written;
-        pub fn bk_sample_read(bytes: *const u8, bytes_len: usize) -> SampleRead;
-        pub fn bk_sample_front(part: *const u8, part_len: usize) -> SampleRead;
-        pub fn bk_sample_read_words(angle: u16, distance: u16, mark: u16) -> SampleRead;
+        pub fn bk_sample_read(bytes: *const u8, bytes_len: usize) -> SampleAnswer;
+        pub fn bk_sample_front(part: *const u8, part_len: usize) -> SampleAnswer;
+        pub fn bk_sample_read_words(angle: u16, distance: u16, mark: u16) -> SampleAnswer;
     }
 }
 
@@ -137,7 +137,7 @@ impl Descriptor {
     }
 
     /// `bk_descriptor_read`
-    pub fn read(bytes: &[u8]) -> DescriptorRead {
+    pub fn read(bytes: &[u8]) -> DescriptorAnswer {
         // SAFETY: the bytes are lent for the call.
         unsafe { c::bk_descriptor_read(bytes.as_ptr(), bytes.len()) }
     }
@@ -151,7 +151,7 @@ impl Info {
     }
 
     /// `bk_info_read`
-    pub fn read(bytes: &[u8]) -> InfoRead {
+    pub fn read(bytes: &[u8]) -> InfoAnswer {
         // SAFETY: the bytes are lent for the call.
         unsafe { c::bk_info_read(bytes.as_ptr(), bytes.len()) }
     }
@@ -165,7 +165,7 @@ impl Health {
     }
 
     /// `bk_health_read`
-    pub fn read(bytes: &[u8]) -> HealthRead {
+    pub fn read(bytes: &[u8]) -> HealthAnswer {
         // SAFETY: the bytes are lent for the call.
         unsafe { c::bk_health_read(bytes.as_ptr(), bytes.len()) }
     }
@@ -185,19 +185,19 @@ impl Sample {
     }
 
     /// `bk_sample_read`
-    pub fn read(bytes: &[u8]) -> SampleRead {
+    pub fn read(bytes: &[u8]) -> SampleAnswer {
         // SAFETY: the bytes are lent for the call.
         unsafe { c::bk_sample_read(bytes.as_ptr(), bytes.len()) }
     }
 
     /// `bk_sample_front`
-    pub fn front(part: &[u8]) -> SampleRead {
+    pub fn front(part: &[u8]) -> SampleAnswer {
         // SAFETY: the bytes are lent for the call.
         unsafe { c::bk_sample_front(part.as_ptr(), part.len()) }
     }
 
     /// `bk_sample_read_words`
-    pub fn read_words([angle, distance, mark]: [u16; 3]) -> SampleRead {
+    pub fn read_words([angle, distance, mark]: [u16; 3]) -> SampleAnswer {
         // SAFETY: no pointer is handed over.
         unsafe { c::bk_sample_read_words(angle, distance, mark) }
     }

@@ -15,7 +15,8 @@ mod session;
 mod turns;
 
 pub use codec::{
-    request_write, Descriptor, DescriptorRead, Health, HealthRead, Info, InfoRead, SampleRead,
+    request_write, Descriptor, DescriptorAnswer, Health, HealthAnswer, Info, InfoAnswer,
+    SampleAnswer,
 };
 pub use collector::{Collected, Collector, Stage};
 pub use host::{next_number, Heard, Host, HostSent, Turned};
