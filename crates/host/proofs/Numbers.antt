@@ -17,7 +17,7 @@ use Rattle.record.specs.declared.read.NumberRead.{NumberRead}
 use Rattle.record.specs.declared.read.NumberRead.the-variants as number
 use Rattle.record.proofs.Reading.{reads-long}
 use Rattle.ring.specs.Ring.{headOf, held, turnAt}
-use Rattle.ring.specs.Answers.{ofRing, counted, counting}
+use Rattle.ring.specs.Answers.{counted, counting}
 use Rattle.ring.specs.inner.Checks.{asking}
 use Rattle.ring.specs.Promises.{HeldGiven, TurnGiven}
 use Rattle.ring.specs.declared.answer.Held.{Held}

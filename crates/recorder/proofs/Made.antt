@@ -18,7 +18,7 @@ use Rattle.ring.specs.Answers.{storing}
 use Rattle.ring.specs.Promises.{StoreGiven}
 use Rattle.ring.proofs.Slots.{less-or-not}
 use Rattle.ring.proofs.Answered.{means-done, means-refused, storing-means, given-yes, mapped-gives}
-use Rattle.recorder.specs.Store.{Write, storedOf, StoreMade}
+use Rattle.recorder.specs.Store.{storedOf, StoreMade}
 use Rattle.recorder.specs.declared.store.Stored.{Stored}
 use Rattle.recorder.specs.declared.store.Stored.the-variants as stored
 

@@ -9,7 +9,6 @@ use libc::STDIN_FILENO;
 use paper::refusal::Answer;
 use stream::Reader;
 use wire::request::Request;
-ghost use mathlib.Core.Path.{_≡_};
 ghost use Prim.Native.Nat.{_≤_};
 ghost use lib.ListN.{length};
 ghost use Rattle.io.specs.Counts.{Counts};
