@@ -1,5 +1,5 @@
-// Prints the listings of rings at the edges: all zeros, one byte short and one too many, head 128, a record that does not read, and a
-// full ring that has gone round.
+// Prints the listings of rings at the edges: all zeros, one byte short and one too many, head 128, a record that does not read, a full ring that
+// has gone round, and then with a turn broken off before its last store and finished.
 use libc::STDOUT_FILENO;
 use paper::refusal::Written;
 ghost use mathlib.Core.Path.{_≡_};
@@ -65,11 +65,30 @@ fn go_round(mem: &mut [u8]) {
     }
 }
 
-// An erased ring that goes round.
+// All stores of a record but the last.
+fn store_first(mem: &mut [u8], rec: &[u8]) {
+    let mut k: usize = 0;
+    while k < 754 {
+        ring::store(mem, rec, k);
+        k += 1;
+    }
+}
+
+// A turn that is broken off before its last store, and then finished.
+fn print_broken(mem: &mut [u8]) {
+    let rec = turn(TURNS);
+    store_first(mem, &rec);
+    print(mem);
+    ring::store(mem, &rec, 754);
+    print(mem);
+}
+
+// An erased ring that goes round, and then takes one turn more.
 fn print_round(mem: &mut [u8]) {
     ring::erase(mem);
     go_round(mem);
     print(mem);
+    print_broken(mem);
 }
 
 fn main() {
