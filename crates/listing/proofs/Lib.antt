@@ -1,5 +1,3 @@
-pub mod Decimal
-pub mod Appends
 pub mod Cells
 pub mod Lines
 pub mod Determined

@@ -7,6 +7,7 @@ use mathlib.Core.Logic.{⊎-elim}
 use mathlib.Core.List.{List, [], _∷_, _++_, append-assoc, append-nil}
 use native.Mathlib.Omega.{arith}
 use native.Mathlib.Numerals.{add-one}
+use borrow.Author.Tests.{eq-eqb, ne-eqb}
 use lib.ListN.{length, length-append}
 use Rattle.paper.specs.Outcome.{gives, refuses}
 use Rattle.paper.specs.Refusals.{numberOf}
@@ -21,12 +22,24 @@ use Rattle.ring.specs.Promises.{HeldGiven, TurnGiven}
 use Rattle.ring.specs.declared.answer.Held.the-variants.{Turns, Refused}
 use Rattle.ring.proofs.Slots.{less-or-not, held-min}
 use Rattle.ring.proofs.Answered.{given-yes, given-no, ring-ok, ring-means, asking-ok, reading-ok, reading-record}
-use Rattle.listing.specs.Decimal.{decimal}
-use Rattle.listing.specs.Text.{space, newline, filled, nearest, distance, refusedLine, turnLine, lineBy, lines, heldLine, textBy, textOf}
-use Rattle.listing.specs.inner.Appends.{Appends}
-use Rattle.listing.proofs.Decimal.{decimal-short}
-use Rattle.listing.proofs.Appends.{append-more, append-is, distance-none, distance-some}
+use Rattle.text.specs.Decimal.{decimal}
+use Rattle.text.specs.Refused.{space, newline, refusedLine}
+use Rattle.text.specs.Appends.{Appends}
+use Rattle.text.proofs.Decimal.{decimal-short}
+use Rattle.text.proofs.Appends.{append-more, append-is}
+use Rattle.text.proofs.Refused.{refused-short}
+use Rattle.listing.specs.Text.{filled, nearest, distance, turnLine, lineBy, lines, heldLine, textBy, textOf}
 use Rattle.listing.proofs.Cells.{turn-there}
+
+-- ---- a distance
+
+pub distance-none : (q : ℕ) → q ≡ 0 → 45 ∷ [] ≡ distance q
+unfolding distance
+distance-none q e = rw (eq-eqb q 0 e)
+
+pub distance-some : (q : ℕ) → (q ≡ 0 → ⊥) → decimal q ≡ distance q
+unfolding distance
+distance-some q n = rw (ne-eqb q 0 n)
 
 -- ---- room
 
@@ -50,8 +63,7 @@ distance-far q l p =
     (less-or-not q 1)
 
 pub refused-far : {was is : List ℕ} {from r : ℕ} (m : ℕ) → m < 256 → Appends was from (refusedLine m) r is → r ≤ from + 12
-unfolding refusedLine
-refused-far m l p = omega (arith, simp length-append at (p .end), decimal-short 2 m (omega arith))
+refused-far m l p = omega (arith, p .end, refused-short m l)
 
 -- ---- one line
 

@@ -1,19 +1,19 @@
 // The text of a whole ring.
 use crate::line::put_line;
-use crate::text::put_byte;
-use crate::text::put_bytes;
-use crate::text::put_number;
-use crate::text::put_refused;
 use paper::refusal::Written;
 use paper::write::write;
 use ring::answer::Held;
+use text::put_byte;
+use text::put_bytes;
+use text::put_number;
+use text::put_refused;
 ghost use mathlib.Core.Path.{_≡_};
 ghost use Prim.Native.Nat.{_+_, _*_, _≤_, _<_};
 ghost use lib.ListN.{length, take};
 ghost use Rattle.ring.specs.Ring.{slots, IsRing, headOf, held as heldBy, turns};
 ghost use Rattle.listing.specs.Text.{lines, heldLine, textOf, roomFor};
 ghost use Rattle.listing.specs.Promises.{ListGiven};
-ghost use Rattle.listing.specs.inner.Appends.{Appends};
+ghost use Rattle.text.specs.Appends.{Appends};
 
 // A buffer of so many bytes is never too short: 9 for the count, 27 for each turn.
 pub const ROOM: usize = 9 + 27 * (ring::SLOTS - 1);
@@ -25,7 +25,7 @@ fn put_held(text: &mut [u8], n: usize) -> usize
     ensures { λ r. ⌜ Appends (now (text .entry)) 0 (heldLine n) r (now (text .exit)) × (r ≤ 9) ⌝ }
 {
     let digits = put_bytes(text, 0, b"held ");
-    let end = put_number(text, digits, n);
+    let end = put_number(text, digits, n as u64);
     put_byte(text, end, b'\n')
 }
 

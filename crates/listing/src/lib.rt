@@ -1,7 +1,6 @@
 // The text of a ring, written into a lent buffer.
 mod image;
 mod line;
-mod text;
 mod turn;
 
 pub use image::ROOM;

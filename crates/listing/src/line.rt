@@ -1,24 +1,25 @@
 // Writing the line of a turn.
-use crate::text::put_byte;
-use crate::text::put_number;
-use crate::text::put_refused;
 use crate::turn::count_of;
 use crate::turn::filled_of;
 use crate::turn::nearest_of;
 use crate::turn::number_of;
 use paper::refusal::Refusal;
+use text::put_byte;
+use text::put_number;
+use text::put_refused;
 ghost use mathlib.Core.Path.{_≡_};
 ghost use mathlib.Core.Bool.{true};
 ghost use mathlib.Core.List.{_++_};
 ghost use Prim.Native.Nat.{_+_, _≤_, _<_};
 ghost use lib.ListN.{length};
 ghost use Rattle.record.specs.Record.{reads, held, turnOf};
-ghost use Rattle.listing.specs.Decimal.{decimal};
-ghost use Rattle.listing.specs.Text.{space, distance, turnLine, lineBy};
-ghost use Rattle.listing.specs.inner.Appends.{Appends};
+ghost use Rattle.text.specs.Decimal.{decimal};
+ghost use Rattle.text.specs.Refused.{space};
+ghost use Rattle.listing.specs.Text.{distance, turnLine, lineBy};
+ghost use Rattle.text.specs.Appends.{Appends};
 
 // A number and the space behind it.
-fn put_field(text: &mut [u8], from: usize, n: usize) -> usize
+fn put_field(text: &mut [u8], from: usize, n: u64) -> usize
     requires { ⌜ from + length (decimal n) < length (now text) ⌝ }
     ensures { λ r. ⌜ Appends (now (text .entry)) from (decimal n ++ space) r (now (text .exit)) ⌝ }
 {
@@ -34,7 +35,7 @@ fn put_distance(text: &mut [u8], from: usize, q: u16) -> usize
     if q == 0 {
         return put_byte(text, from, b'-');
     }
-    put_number(text, from, q as usize)
+    put_number(text, from, q as u64)
 }
 
 // The line of a record that reads.
@@ -43,9 +44,9 @@ fn put_turn(text: &mut [u8], from: usize, rec: &[u8]) -> usize
     requires { ⌜ from + 27 ≤ length (now text) ⌝ }
     ensures { λ r. ⌜ Appends (now (text .entry)) from (turnLine (held (now (rec .entry)))) r (now (text .exit)) × (r ≤ from + 27) ⌝ }
 {
-    let count = put_field(text, from, number_of(rec) as usize);
-    let filled = put_field(text, count, count_of(rec) as usize);
-    let nearest = put_field(text, filled, filled_of(rec));
+    let count = put_field(text, from, number_of(rec) as u64);
+    let filled = put_field(text, count, count_of(rec) as u64);
+    let nearest = put_field(text, filled, filled_of(rec) as u64);
     let end = put_distance(text, nearest, nearest_of(rec));
     put_byte(text, end, b'\n')
 }

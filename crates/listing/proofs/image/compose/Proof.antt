@@ -3,8 +3,10 @@ use native.Mathlib.Omega.{arith}
 use Rattle.ring.specs.Ring.{slots}
 use Rattle.ring.specs.Promises.{HeldGiven}
 use Rattle.ring.specs.declared.answer.Held.the-variants.{Turns}
-use Rattle.listing.proofs.Appends.{append-is, append-more}
+use Rattle.text.proofs.Appends.{append-is, append-more}
 use Rattle.listing.proofs.Lines.{refused-far, turns-counted, text-held, text-refused}
+use Rattle.text.proofs.Puts.{puts-appends}
+use Rattle.text.proofs.Refused.{refused-short}
 use borrow.Author.Needs.{needs}
 use Rattle.listing.proofs.image.compose.Statement.{statement}
 use Rattle.listing.proofs.image.compose.Tie as tie
@@ -35,7 +37,7 @@ number-requires : tie.Need-number-requires
 number-requires c κs = search needs
 
 put-refused-requires : tie.Need-put-refused-requires
-put-refused-requires c κs = search needs
+put-refused-requires c κs = tt
 
 same-length : tie.Need-same-length
 same-length c = search needs
@@ -53,7 +55,7 @@ same-length-2 c = search needs
 returns-2 : tie.Need-returns-2
 returns-2 c = let at = c .before .before .before .before .before .before in
     let number = c .before .before .before .number in
-    let put = c .before .before .put-refused .ensures in
+    let put = puts-appends (omega (arith, refused-short (number .result) (omega arith), c .before .before .before .before .before .before .before .before .before .before .before .pre)) (c .before .before .put-refused .ensures) in
     (append-is put (text-refused slots _ _ (rw (at .h2 .given .1) at (at .before .before .held .ensures)) (number .ensures .answer)), omega (arith, refused-far (number .result) (omega arith) put))
 
 pub compose-spec : {M : Type 1} → statement M

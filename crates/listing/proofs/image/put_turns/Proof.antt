@@ -6,8 +6,8 @@ use native.Mathlib.Omega.{arith}
 use borrow.Author.Needs.{needs}
 use Rattle.ring.specs.Ring.{slots, firstTurns}
 use Rattle.listing.specs.Text.{lines}
-use Rattle.listing.specs.inner.Appends.{Appends}
-use Rattle.listing.proofs.Appends.{append-start, append-more, append-is}
+use Rattle.text.specs.Appends.{Appends}
+use Rattle.text.proofs.Appends.{append-start, append-more, append-is}
 use Rattle.listing.proofs.Lines.{lines-more, lines-all, turn-same}
 use Rattle.listing.proofs.image.put_turns.Statement.{statement}
 use Rattle.listing.proofs.image.put_turns.Tie as tie

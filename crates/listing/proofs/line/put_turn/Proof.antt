@@ -2,8 +2,9 @@
 use Prim.Native.Nat.{_+_, _≤_, _<_}
 use native.Mathlib.Omega.{arith}
 use lib.ListN.{length}
-use Rattle.listing.proofs.Decimal.{decimal-short}
+use Rattle.text.proofs.Decimal.{decimal-short}
 use Rattle.listing.proofs.Lines.{field-far, field-room, distance-far, turn-line}
+use Rattle.text.proofs.Puts.{puts-appends}
 use borrow.Author.Needs.{needs}
 use Rattle.listing.proofs.line.put_turn.Statement.{statement}
 use Rattle.listing.proofs.line.put_turn.Tie as tie
@@ -52,7 +53,7 @@ put-distance-requires : tie.Need-put-distance-requires
 put-distance-requires c κs = omega (arith, behind-filled (c .before .before .before .before))
 
 put-byte-requires : tie.Need-put-byte-requires
-put-byte-requires c κs = behind-nearest (c .before .before .before)
+put-byte-requires c κs = tt
 
 same-length : tie.Need-same-length
 same-length c = search needs
@@ -62,7 +63,7 @@ returns c = let near = c .before .before .before .before .before .before in
     let fill = near .before .before .before .before .before in
     let count = fill .before .before .before .before .before in
     let number = count .before .before .before .before .before in
-    let end = c .before .before .put-byte .ensures in (
+    let end = puts-appends (omega (arith, behind-nearest near)) (c .before .before .put-byte .ensures) in (
       turn-line _ (number .put-field .ensures) (number .before .number-of .ensures) (count .put-field2 .ensures) (count .before .count-of .ensures) (fill .put-field3 .ensures) (fill .before .filled-of .ensures .0) (near .put-distance .ensures) (near .before .nearest-of .ensures) end,
       omega (arith, end .end, distance-far (near .before .nearest-of .result) (omega arith) (near .put-distance .ensures), field-far 2 (fill .before .filled-of .result) (omega (arith, fill .before .filled-of .ensures .1)) (fill .put-field3 .ensures), field-far 4 (count .before .count-of .result) (omega arith) (count .put-field2 .ensures), field-far 9 (number .before .number-of .result) (omega arith) (number .put-field .ensures)),
     )

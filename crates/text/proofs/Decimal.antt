@@ -2,16 +2,25 @@
 -- stands in front), `decimal-short` (so many digits at most).
 use Prim.Native.Nat.{ℕ, zero, suc, _+_, _-_, _*_, _/_, _%_, _^_, _≤_, _<_}
 use mathlib.Core.Path.{_≡_, refl, sym, ap, _∙_}
-use mathlib.Core.Logic.{⊎-elim}
+use mathlib.Core.Bool.{Bool, true, false}
+use mathlib.Core.Logic.{_⊎_, inl, inr, ⊎-elim}
 use mathlib.Core.List.{List, [], _∷_, _++_}
 use native.Mathlib.Omega.{arith}
 use native.Mathlib.Nat.{pow-suc}
 use lib.ListN.{length, getD, length-append, List·getD-append}
-use borrow.Author.Tests.{lt-ltb, le-ltb}
+use lib.Dec.{ltb}
+use borrow.Author.Tests.{lt-ltb, le-ltb, ltb-true, ltb-false}
 use Rattle.paper.specs.Words.{Each}
 use Rattle.paper.proofs.Words.{each-append}
-use Rattle.ring.proofs.Slots.{less-or-not}
-use Rattle.listing.specs.Decimal.{digits, decimal, toldFrom}
+use Rattle.text.specs.Decimal.{digits, decimal, toldFrom}
+
+-- one digit or more
+one-or-more : (n : ℕ) → (n < 10) ⊎ (10 ≤ n)
+one-or-more n = go (ltb n 10) refl
+  where
+    go : (t : Bool) → ltb n 10 ≡ t → (n < 10) ⊎ (10 ≤ n)
+    go true e = inl (ltb-true n 10 e)
+    go false e = inr (ltb-false n 10 e)
 
 -- ---- one digit, and one digit more
 
@@ -34,7 +43,7 @@ digits-enough (suc most) n l (suc more) k =
     digits-more most n g
     ∙ ap (λ (ds : List ℕ). ds ++ (48 + n % 10) ∷ []) (digits-enough most (n / 10) (omega arith) more (omega arith))
     ∙ sym (digits-more more n g))
-    (less-or-not n 10)
+    (one-or-more n)
 
 pub decimal-one : (n : ℕ) → n < 10 → decimal n ≡ (48 + n) ∷ []
 unfolding decimal
@@ -51,7 +60,7 @@ by-digits P one more n = go (suc n) n (omega arith)
   where
     go : (most n : ℕ) → n < most → P n
     go zero n l = absurd (omega arith)
-    go (suc most) n l = ⊎-elim (λ b. one n b) (λ g. more n g (go most (n / 10) (omega arith))) (less-or-not n 10)
+    go (suc most) n l = ⊎-elim (λ b. one n b) (λ g. more n g (go most (n / 10) (omega arith))) (one-or-more n)
 
 -- ---- what they are
 
@@ -100,4 +109,4 @@ decimal-short (suc k) n l =
     let p : 10 ^ suc (suc k) ≡ 10 ^ suc k * 10 = pow-suc 10 (suc k) in
     let i : length (decimal (n / 10)) ≤ suc k = decimal-short k (n / 10) (omega arith) in
     rw (decimal-more n g, length-append) (omega arith))
-    (less-or-not n 10)
+    (one-or-more n)

@@ -1,12 +1,11 @@
--- `listing::text::put_bytes` meets its contract.
+-- `text::copy` meets its contract.
 use lib.ListN.{length, take}
-use Rattle.listing.specs.inner.Appends.{Appends}
-use Rattle.listing.proofs.Appends.{append-none, append-next, append-all}
+use Rattle.text.specs.Appends.{Appends}
+use Rattle.text.proofs.Appends.{append-none, append-next, append-all}
 use Prim.Native.Nat.{_+_, _≤_, _-_}
 use native.Mathlib.Omega.{arith}
-use lib.ListN.{length}
-use Rattle.listing.proofs.text.put_bytes.Statement.{statement}
-use Rattle.listing.proofs.text.put_bytes.Tie as tie
+use Rattle.text.proofs.copy.Statement.{statement}
+use Rattle.text.proofs.copy.Tie as tie
 
 abbrev Inv-loop : tie.InvT-loop
 Inv-loop text₀ from xs i₀ text i = (i ≤ length xs) × Appends text₀ from (take i xs) (from + i) text
@@ -44,8 +43,8 @@ same-length c = c .before .loop .inv .1 .size
 returns : tie.Need-returns Inv-loop μ-loop
 returns c = append-all (c .before .before .args .xs .now) (c .before .loop .i) (omega arith) (c .before .loop .inv .1)
 
-pub put-bytes-spec : {M : Type 1} → statement M
-put-bytes-spec =
+pub copy-spec : {M : Type 1} → statement M
+copy-spec =
     tie.close
     (tie.spec
     Inv-loop

@@ -1,0 +1,18 @@
+-- What each public function of the crate promises, over the bytes of its piece.
+use Prim.Native.Nat.{ℕ, _+_}
+use mathlib.Core.Bool.{Bool, cond}
+use mathlib.Core.Path.{_≡_}
+use mathlib.Core.List.{List}
+use lib.Dec.{leb}
+use lib.ListN.{length}
+use Rattle.paper.specs.Promises.{putAt}
+
+-- the piece xs has room behind the first `from` bytes
+unfoldable pub fits : List ℕ → ℕ → List ℕ → Bool
+fits was from xs = leb (from + length xs) (length was)
+
+-- `put_byte`, `put_bytes`, `put_number`, `put_hex`, `put_refused`: with room the piece stands there and the answer is the place behind it;
+-- without, nothing is written and the answer is `from`
+pub record Puts (was : List ℕ) (from : ℕ) (xs : List ℕ) (r : ℕ) (is : List ℕ) : Type 0 where
+  pub next : r ≡ cond (fits was from xs) (from + length xs) from
+  pub output : is ≡ cond (fits was from xs) (putAt from xs was) was
