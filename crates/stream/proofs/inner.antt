@@ -7,3 +7,4 @@ pub mod Seek
 pub mod Reply
 pub mod Scan
 pub mod Tell
+pub mod Window

@@ -7,6 +7,7 @@ mod scan;
 mod scanning;
 mod seek;
 mod tell;
+mod window;
 
 use paper::refusal::Answer;
 use paper::refusal::Refusal;

@@ -108,6 +108,10 @@ module _ (p : Phase) (xs : List ℕ) (t k u : ℕ) (ws : List ℕ) (enough : wid
 pub moves-none : (p : Phase) (part : List ℕ) (b u : ℕ) (ws : List ℕ) → Moves p part b b 0 u ws u ws
 moves-none p part b u ws = record { go = λ ys t j. rw (add-zero j) }
 
+pub moves-on : {p : Phase} {part : List ℕ} {b i k u : ℕ} {ws : List ℕ} {v : ℕ} {vs : List ℕ} {i' k' v' : ℕ} {vs' : List ℕ}
+    → Moves p part b i k u ws v vs → Moves p part i i' k' v vs v' vs' → Moves p part b i' (k + k') u ws v' vs'
+moves-on {k = k} {k' = k'} m n = record { go = λ ys t j. m .go ys t j ∙ n .go ys t (j + k) ∙ rw (add-assoc j k k') }
+
 module _ (p : Phase) (part : List ℕ) (b i k u : ℕ) (ws : List ℕ) (v : ℕ) (vs : List ℕ) (m : Moves p part b i k u ws v vs) (h : i + width p ≤ length part) where
   long : (ys : List ℕ) → width p ≤ length (drop i part ++ ys)
   long ys = simp (length-append, length-drop) (omega arith)
