@@ -1,7 +1,6 @@
 -- Hexadecimal digits: `hex-low` and `hex-high`, and `hex-long` (a byte takes two).
 use Prim.Native.Nat.{ℕ, _+_, _≤_, _<_}
 use mathlib.Core.Path.{_≡_, refl}
-use native.Mathlib.Omega.{arith}
 use borrow.Author.Tests.{lt-ltb, le-ltb}
 use lib.ListN.{length}
 use Rattle.text.specs.Hex.{hexDigit, hex}
