@@ -5,11 +5,16 @@ use crate::Stop;
 use crate::hold;
 ghost use mathlib.Core.List.{List};
 ghost use mathlib.Core.Path.{_≡_};
-ghost use Prim.Native.Nat.{ℕ, _≤_};
+ghost use mathlib.Core.Bool.{_&&_};
+ghost use Prim.Native.Nat.{ℕ, _+_, _≤_};
+ghost use lib.Dec.{eqb};
 ghost use lib.ListN.{length};
 ghost use Rattle.stream.specs.inner.Account.{Comes};
 ghost use Rattle.stream.specs.inner.Joint.{Joins, Placed};
-ghost use Rattle.stream.specs.inner.Seek.{Seeks, SoughtTo, seekAnswer};
+ghost use Rattle.stream.specs.inner.Seek.{Seeks, nearBy, Sought, Searched, SoughtTo, seekAnswer};
+
+// So many places are passed over at once.
+const BLOCK: usize = 32;
 
 // The first place at which the seven bytes stand, or the first at which there are too few.
 pub struct Match {
@@ -17,14 +22,57 @@ pub struct Match {
     pub found: bool,
 }
 
-// Places one by one, seven bytes at each, left at the first match.
-fn seek(head: &[u8; 7], part: &[u8], from: usize) -> Match
-    requires { ⌜ from ≤ length (now part) ⌝ }
-    ensures { λ r. ⌜ SoughtTo (now (head .entry)) (now (part .entry)) from (r .at) (r .found) ⌝ }
+// Do two bytes stand side by side?
+fn beside(a: u8, b: u8, first: u8, second: u8) -> bool
+    ensures { λ r. ⌜ r ≡ (eqb a first && eqb b second) ⌝ }
+{
+    if a != first {
+        return false;
+    }
+    b == second
+}
+
+// Do the first two of the seven stand at one of the places of a block? No place waits for another, so that all are looked at together.
+fn is_near(head: &[u8; 7], part: &[u8], at: usize) -> bool
+    requires { ⌜ at + 33 ≤ length (now part) ⌝ }
+    ensures { λ r. ⌜ r ≡ nearBy (now (head .entry)) (now (part .entry)) at 32 ⌝ }
+{
+    let first = head[0];
+    let second = head[1];
+    let mut near = false;
+    let mut k: usize = 0;
+    while k < BLOCK {
+        if beside(part[at + k], part[at + k + 1], first, second) {
+            near = true;
+        }
+        k += 1;
+    }
+    near
+}
+
+// Past blocks of places at none of which the first two of the seven stand.
+fn pass_over(head: &[u8; 7], part: &[u8], from: usize) -> usize
+    requires { ⌜ from + 6 ≤ length (now part) ⌝ }
+    ensures { λ r. ⌜ Sought (now (head .entry)) (now (part .entry)) from r × (r + 6 ≤ length (now (part .entry))) ⌝ }
+{
+    let mut at = from;
+    while BLOCK + 6 <= part.len() - at {
+        if is_near(head, part, at) {
+            return at;
+        }
+        at += BLOCK;
+    }
+    at
+}
+
+// Places one by one as far as `last`, seven bytes at each, left at the first match.
+fn search(head: &[u8; 7], part: &[u8], from: usize, last: usize) -> Match
+    requires { ⌜ (from ≤ last) × (last + 6 ≤ length (now part)) ⌝ }
+    ensures { λ r. ⌜ Searched (now (head .entry)) (now (part .entry)) from last (r .at) (r .found) ⌝ }
 {
     let mut at = from;
     let mut found = false;
-    'places: while 7 <= part.len() - at {
+    'places: while at < last {
         let mut k = 0;
         while part[at + k] == head[k] {
             k += 1;
@@ -36,6 +84,24 @@ fn seek(head: &[u8; 7], part: &[u8], from: usize) -> Match
         at += 1;
     }
     Match { at, found }
+}
+
+// Blocks are passed over where that can be, and the places of the next one searched.
+fn seek(head: &[u8; 7], part: &[u8], from: usize) -> Match
+    requires { ⌜ from ≤ length (now part) ⌝ }
+    ensures { λ r. ⌜ SoughtTo (now (head .entry)) (now (part .entry)) from (r .at) (r .found) ⌝ }
+{
+    let mut at = from;
+    while 7 <= part.len() - at {
+        let near = pass_over(head, part, at);
+        let last = hold::least(near + BLOCK, part.len() - 6);
+        let m = search(head, part, near, last);
+        if m.found {
+            return m;
+        }
+        at = m.at;
+    }
+    Match { at, found: false }
 }
 
 fn answer(phase: Phase, next: Phase, part: &[u8], place: Match, h: usize, skipped: u32) -> Reading

@@ -1,10 +1,12 @@
--- Seeking, as code does it: `sought-next` and `sought-found` for the loop, `seek-full`, `seek-end` and `seek-then` for the answers.
+-- Seeking, as code does it: `sought-next`, `sought-block` and `sought-on` for the loops, `seek-full`, `seek-end` and `seek-then` for the answers.
 use mathlib.Core.Path.{_≡_, refl, sym, ap, _∙_}
-use mathlib.Core.Bool.{Bool, true, false}
+use mathlib.Core.Bool.{Bool, true, false, _&&_}
 use mathlib.Core.List.{List, [], _++_, append-nil, flatMap}
-use Prim.Native.Nat.{ℕ, _+_, _-_, _≤_, _<_}
+use Prim.Native.Nat.{ℕ, zero, suc, _+_, _-_, _≤_, _<_}
 use native.Mathlib.Nat.{zero-add, add-zero, le-refl, sub-zero}
 use native.Mathlib.Omega.{arith}
+use borrow.Author.Tests.{eqb-false}
+use lib.Dec.{eqb}
 use lib.ListN.{length, take, drop, getD, replicate, length-append, length-drop}
 use lib.Seq.{getD-take, getD-drop, ext-getD, length-take-le, take-append-le}
 use Rattle.framing.specs.Framing.{frame, size, fresh, after}
@@ -23,9 +25,9 @@ use Rattle.stream.specs.Stops.{replyFor, stopOf}
 use Rattle.stream.specs.inner.Account.{put, Account, comesTo, Moves, readingOf, Comes}
 use Rattle.stream.specs.inner.Hold.{holding}
 use Rattle.stream.specs.inner.Joint.{Joins, Placed}
-use Rattle.stream.specs.inner.Seek.{Seeks, Sought, SeekEnd, SoughtTo, seekAnswer}
+use Rattle.stream.specs.inner.Seek.{Seeks, begins, nearBy, Sought, SeekEnd, SearchEnd, Searched, SoughtTo, seekAnswer}
 use Rattle.stream.proofs.Table.{same-true, same-refl}
-use Rattle.stream.proofs.inner.Account.{comes-short, comes-ended, moves-none, moves-skip}
+use Rattle.stream.proofs.inner.Account.{comes-short, comes-ended, moves-none, moves-on, moves-skip}
 use Rattle.stream.proofs.inner.Hold.{capped-capped}
 use Rattle.stream.proofs.inner.Promise.{comes}
 use Rattle.stream.proofs.inner.Joint.{to-end, not-both, joint-all, joint-only, joint-from, joint-on}
@@ -78,9 +80,73 @@ sought-next {d} {part} {b} {i} s h k l ne =
       within = omega arith;
     }
 
-pub sought-found : {d part : List ℕ} {b i : ℕ} → Sought d part b i → i + 7 ≤ length part → ((j : ℕ) → j < 7 → getD part (i + j) 0 ≡ getD d j 0) → SoughtTo d part b i true
-unfolding SeekEnd
-sought-found s h f = record { sought = s; end = (h, f) }
+-- first so far, and then on
+pub sought-on : {d part : List ℕ} {b i j : ℕ} → Sought d part b i → Sought d part i j → Sought d part b j
+sought-on {b = b} {i = i} {j = j} s f =
+    let n : i - b + (j - i) ≡ j - b = omega (arith, s .behind, f .behind) in
+    record {
+      moves = λ p q z u ws. rw n at (moves-on (s .moves p q z u ws) (f .moves p q z u ws));
+      behind = omega (arith, s .behind, f .behind);
+      within = f .within;
+    }
+
+-- where the first two bytes do not stand, d does not
+sought-off : {d part : List ℕ} {b i : ℕ} → Sought d part b i → i + 7 ≤ length part → begins d part i ≡ false → Sought d part b (i + 1)
+unfolding begins
+sought-off {d} {part} {b} {i} s h e = by (eqb (getD part i 0) (getD d 0 0)) refl
+  where
+    at-first : getD part (i + 0) 0 ≡ getD part i 0
+    at-first = ap (λ (k : ℕ). getD part k 0) (add-zero i)
+
+    by : (t : Bool) → eqb (getD part i 0) (getD d 0 0) ≡ t → Sought d part b (i + 1)
+    by false f = sought-next s h 0 (omega arith) (λ g. eqb-false _ _ f (sym at-first ∙ g))
+    by true f = sought-next s h 1 (omega arith) (eqb-false _ _ (rw f at e))
+
+pub near-none : (d part : List ℕ) (i : ℕ) → false ≡ nearBy d part i 0
+unfolding nearBy
+near-none d part i = refl
+
+-- one place more
+module _ (d part : List ℕ) (i n : ℕ) {t o : Bool} (e : t ≡ (eqb (getD part (i + n) 0) (getD d 0 0) && eqb (getD part (i + n + 1) 0) (getD d 1 0))) where
+  pub near-there : t ≡ true → o ≡ true → o ≡ nearBy d part i (n + 1)
+  unfolding nearBy begins
+  near-there h f = let q : n + 1 ≡ suc n = omega arith in rw (q, sym e, h, f)
+
+  pub near-before : t ≡ false → o ≡ nearBy d part i n → o ≡ nearBy d part i (n + 1)
+  unfolding nearBy begins
+  near-before h f = let q : n + 1 ≡ suc n = omega arith in rw (q, sym e, h, f)
+
+pub near-all : (d part : List ℕ) (i n : ℕ) {o : Bool} → n ≡ 32 → o ≡ nearBy d part i n → o ≡ nearBy d part i 32
+near-all d part i n q e = rw q at e
+
+pub sought-block : {d part : List ℕ} {b i : ℕ} (n : ℕ) → Sought d part b i → i + n + 6 ≤ length part → nearBy d part i n ≡ false → Sought d part b (i + n)
+unfolding nearBy
+sought-block {i = i} zero s h e = rw (add-zero i) s
+sought-block {d} {part} {b} {i} (suc n) s h e = by (begins d part (i + n)) refl (λ f. sought-block n s (omega arith) f)
+  where
+    by : (t : Bool) → begins d part (i + n) ≡ t → (nearBy d part i n ≡ false → Sought d part b (i + n)) → Sought d part b (i + suc n)
+    by true f on = not-both true refl (rw f at e)
+    by false f on = let q : i + n + 1 ≡ i + suc n = omega arith in rw q at (sought-off (on (rw f at e)) (omega arith) f)
+
+pub searched-found : {d part : List ℕ} {b last i : ℕ} → Sought d part b i → i + 7 ≤ length part → ((j : ℕ) → j < 7 → getD part (i + j) 0 ≡ getD d j 0) → Searched d part b last i true
+unfolding SearchEnd SeekEnd
+searched-found s h f = record { sought = s; end = (h, f) }
+
+pub searched-last : {d part : List ℕ} {b last i : ℕ} → Sought d part b i → i ≡ last → Searched d part b last i false
+unfolding SearchEnd
+searched-last s e = record { sought = s; end = e }
+
+-- found behind what was passed over
+pub sought-there : {d part : List ℕ} {b last i : ℕ} {t : Bool} {j : ℕ} → Sought d part b j → Searched d part j last i t → t ≡ true → SoughtTo d part b i t
+unfolding SeekEnd SearchEnd
+sought-there {t = true} s f e = record { sought = sought-on s (f .sought); end = f .end }
+sought-there {t = false} s f e = not-both false e refl
+
+-- or not
+pub sought-last : {d part : List ℕ} {last i : ℕ} {t : Bool} {j : ℕ} → Searched d part j last i t → t ≡ false → i ≡ last
+unfolding SearchEnd
+sought-last {t = true} f e = not-both true refl e
+sought-last {t = false} f e = f .end
 
 pub sought-end : {d part : List ℕ} {b i : ℕ} → Sought d part b i → length part < i + 7 → SoughtTo d part b i false
 unfolding SeekEnd

@@ -1,8 +1,9 @@
 -- Seeking a descriptor, as code does it: from place to place of a part.
 use mathlib.Core.Path.{_≡_}
-use mathlib.Core.Bool.{Bool, true, false}
+use mathlib.Core.Bool.{Bool, true, false, cond, _&&_}
 use mathlib.Core.List.{List, []}
-use Prim.Native.Nat.{ℕ, _+_, _-_, _≤_, _<_}
+use Prim.Native.Nat.{ℕ, zero, suc, _+_, _-_, _≤_, _<_}
+use lib.Dec.{eqb}
 use lib.ListN.{length, drop, getD}
 use Rattle.stream.specs.declared.Phase.{Phase}
 use Rattle.stream.specs.declared.Stop.the-variants.{AllTaken, Descriptor}
@@ -25,6 +26,15 @@ pub record Sought (d part : List ℕ) (b i : ℕ) : Type 0 where
   pub behind : b ≤ i
   pub within : i ≤ length part
 
+-- the first two bytes of d stand at i
+unfoldable pub begins : List ℕ → List ℕ → ℕ → Bool
+begins d part i = eqb (getD part i 0) (getD d 0 0) && eqb (getD part (i + 1) 0) (getD d 1 0)
+
+-- at one of the n places from i on
+unfoldable pub nearBy : List ℕ → List ℕ → ℕ → ℕ → Bool
+nearBy d part i zero = false
+nearBy d part i (suc n) = cond (begins d part (i + n)) true (nearBy d part i n)
+
 -- d stands at i, or there are too few bytes
 unfoldable pub SeekEnd : Bool → List ℕ → List ℕ → ℕ → Type 0
 SeekEnd true d part i = (i + 7 ≤ length part) × ((j : ℕ) → j < 7 → getD part (i + j) 0 ≡ getD d j 0)
@@ -33,6 +43,15 @@ SeekEnd false d part i = length part < i + 7
 pub record SoughtTo (d part : List ℕ) (b i : ℕ) (t : Bool) : Type 0 where
   pub sought : Sought d part b i
   pub end : SeekEnd t d part i
+
+-- d stands at i, or i is the last place
+unfoldable pub SearchEnd : Bool → List ℕ → List ℕ → ℕ → ℕ → Type 0
+SearchEnd true d part last i = SeekEnd true d part i
+SearchEnd false d part last i = i ≡ last
+
+pub record Searched (d part : List ℕ) (b last i : ℕ) (t : Bool) : Type 0 where
+  pub sought : Sought d part b i
+  pub end : SearchEnd t d part last i
 
 -- the answer where seeking stands at i, counted from the h bytes held
 unfoldable pub seekAnswer : Phase → Phase → List ℕ → ℕ → Bool → ℕ → ℕ → Reading

@@ -1,70 +1,51 @@
 -- `seek::seek` meets its promise.
-use Prim.Native.Nat.{ℕ, _+_, _-_, _<_}
-use mathlib.Core.Path.{_≡_, refl}
-use mathlib.Core.Bool.{false}
+use Prim.Native.Nat.{_-_}
 use native.Mathlib.Omega.{arith}
-use borrow.Author.Count.{below-more, below-none}
-use lib.ListN.{length, getD}
+use lib.ListN.{length}
 use Rattle.stream.specs.inner.Seek.{Sought}
-use Rattle.stream.proofs.inner.Seek.{sought-none, sought-next, sought-found, sought-end}
+use Rattle.stream.proofs.inner.Seek.{sought-none, sought-on, sought-there, sought-last, sought-end}
+use borrow.Author.Needs.{needs}
 use Rattle.stream.proofs.seek.seek.Statement.{statement}
 use Rattle.stream.proofs.seek.seek.Tie as tie
 
 abbrev Inv-loop : tie.InvT-loop
-Inv-loop head part from at found₀ k₀ found k = (found ≡ false) × (k < 7) × ((j : ℕ) → j < k → getD part (at + j) 0 ≡ getD head j 0)
+Inv-loop head part from at₀ at = Sought head part from at
 
 abbrev μ-loop : tie.MeasureT-loop
-μ-loop head part from at found₀ k₀ found k = 7 - k
+μ-loop head part from at₀ at = length part - at
 
-abbrev Inv-places : tie.InvT-places
-Inv-places head part from at₀ found₀ at found = (found ≡ false) × Sought head part from at
+loop-holds : tie.Need-loop-holds Inv-loop μ-loop
+loop-holds c = sought-none _ _ _ (omega arith)
 
-abbrev μ-places : tie.MeasureT-places
-μ-places head part from at₀ found₀ at found = length part - at
+sub-loop : tie.Need-sub-loop Inv-loop μ-loop
+sub-loop c = c .loop .inv .within
 
-places-holds : tie.Need-places-holds Inv-loop μ-loop Inv-places μ-places
-places-holds c = (refl, sought-none _ _ _ (c .pre))
+pass-over-requires : tie.Need-pass-over-requires Inv-loop μ-loop
+pass-over-requires c κs = omega arith
 
-sub-places : tie.Need-sub-places Inv-loop μ-loop Inv-places μ-places
-sub-places c = omega (arith, c .places .inv .1 .within)
+add-least : tie.Need-add-least Inv-loop μ-loop
+add-least c = omega (arith, c .pass-over .ensures .1)
 
-loop-holds : tie.Need-loop-holds Inv-loop μ-loop Inv-places μ-places
-loop-holds c = (c .before .places .inv .0, omega arith, below-none _)
+sub-least : tie.Need-sub-least Inv-loop μ-loop
+sub-least c = omega arith
 
-add-if1 : tie.Need-add-if1 Inv-loop μ-loop Inv-places μ-places
-add-if1 c = omega arith
+least-requires : tie.Need-least-requires Inv-loop μ-loop
+least-requires c κs = search needs
 
-shared-slice-read-if1 : tie.Need-shared-slice-read-if1 Inv-loop μ-loop Inv-places μ-places
-shared-slice-read-if1 c = omega (arith, c .before .before .before .places .inv .1 .within)
+search-requires : tie.Need-search-requires Inv-loop μ-loop
+search-requires c κs = (omega (arith, c .least .ensures, c .before .pass-over .ensures .1), omega (arith, c .least .ensures))
 
-element-copy-out-if1 : tie.Need-element-copy-out-if1 Inv-loop μ-loop Inv-places μ-places
-element-copy-out-if1 c = omega arith
+returns : tie.Need-returns Inv-loop μ-loop
+returns c = sought-there (sought-on (c .before .before .before .before .before .loop .inv) (c .before .before .before .pass-over .ensures .0)) (c .before .search .ensures) (c .if1 .taken)
 
-add-k : tie.Need-add-k Inv-loop μ-loop Inv-places μ-places
-add-k c = omega arith
+loop-less : tie.Need-loop-less Inv-loop μ-loop
+loop-less c = omega (arith, sought-last (c .before .search .ensures) (c .if1 .left), c .before .before .least .ensures, c .before .before .before .pass-over .ensures .0 .behind, c .before .before .before .pass-over .ensures .1)
 
-loop-less : tie.Need-loop-less Inv-loop μ-loop Inv-places μ-places
-loop-less c = omega arith
+loop-again : tie.Need-loop-again Inv-loop μ-loop
+loop-again c = sought-on (c .before .before .before .before .before .loop .inv) (sought-on (c .before .before .before .pass-over .ensures .0) (c .before .search .ensures .sought))
 
-loop-again : tie.Need-loop-again Inv-loop μ-loop Inv-places μ-places
-loop-again c = let l = c .before .before .before .before .loop in (l .inv .0, omega arith, below-more _ _ (l .inv .2) (c .before .if1 .taken))
-
-add-at : tie.Need-add-at Inv-loop μ-loop Inv-places μ-places
-add-at c = omega arith
-
-places-less : tie.Need-places-less Inv-loop μ-loop Inv-places μ-places
-places-less c = omega (arith, c .before .before .before .before .before .places .inv .1 .within)
-
-places-again : tie.Need-places-again Inv-loop μ-loop Inv-places μ-places
-places-again c = let l = c .before .before .before .loop in let p = c .before .before .before .before .before .places in
-    (l .inv .0, sought-next (p .inv .1) (omega arith) (l .k) (l .inv .1) (c .if1 .left))
-
-returns : tie.Need-returns Inv-loop μ-loop Inv-places μ-places
-returns c = let p = c .before .places in rw (p .inv .0) (sought-end (p .inv .1) (omega arith))
-
-returns-2 : tie.Need-returns-2 Inv-loop μ-loop Inv-places μ-places
-returns-2 c = let l = c .before .before .before .before .loop in let p = c .before .before .before .before .before .before .places in
-    sought-found (p .inv .1) (omega arith) (λ j h. below-more _ _ (l .inv .2) (c .before .if1 .taken) j (omega arith))
+returns-2 : tie.Need-returns-2 Inv-loop μ-loop
+returns-2 c = sought-end (c .before .loop .inv) (omega arith)
 
 pub seek-spec : {M : Type 1} → statement M
 seek-spec =
@@ -72,19 +53,14 @@ seek-spec =
     (tie.spec
     Inv-loop
     μ-loop
-    Inv-places
-    μ-places
-    places-holds
-    sub-places
     loop-holds
-    add-if1
-    shared-slice-read-if1
-    element-copy-out-if1
-    add-k
+    sub-loop
+    pass-over-requires
+    add-least
+    sub-least
+    least-requires
+    search-requires
+    returns
     loop-less
     loop-again
-    add-at
-    places-less
-    places-again
-    returns
     returns-2)
