@@ -12,6 +12,7 @@ use wire::request::Request;
 ghost use Prim.Native.Nat.{_≤_};
 ghost use lib.ListN.{length};
 ghost use Rattle.io.specs.Counts.{Counts};
+ghost use Rattle.scantext.specs.Lines.{roomFor};
 
 const CUT: usize = 4096;
 
@@ -21,6 +22,9 @@ const ROOM: usize = 3072;
 const MOST_CUT: usize = 65536;
 
 const MOST_ROOM: usize = 24576;
+
+// The text of a call with so many words.
+const TEXT: usize = scantext::WORD_ROOM * MOST_ROOM + scantext::STOP_ROOM;
 
 // One read of standard input: how many bytes came, none where the input ends or cannot be read, which is said.
 fn receive(part: &mut [u8]) -> usize
@@ -50,17 +54,18 @@ fn fill(piece: &mut [u8]) -> usize
 }
 
 // Reads one piece to its end, and prints what is given.
-fn list_piece(reader: Reader, input: &[u8], words: &mut [u16]) -> Reader {
+fn list_piece(reader: Reader, input: &[u8], words: &mut [u16], text: &mut [u8]) -> Reader
+    requires { ⌜ roomFor (length (now words)) ≤ length (now text) ⌝ }
+{
     let mut next = reader;
     let mut at: usize = 0;
     while at < input.len() {
         let phase = next.phase;
         let r = next.read(&input[at..], words);
         let n = r.words;
-        show::row(&words[..n]);
         let stop = r.stop;
         let reply = r.reply;
-        show::stop(phase, stop, &reply);
+        show::call(phase, &words[..n], stop, &reply, text);
         next = r.reader;
         if r.taken == 0 {
             return next;
@@ -72,30 +77,39 @@ fn list_piece(reader: Reader, input: &[u8], words: &mut [u16]) -> Reader {
 
 // Reads the whole input, piece by piece, and ends with the last line. A proved loop has to end, and nothing says that an input does: so it
 // counts down from more bytes than there ever are.
-fn list(reader: Reader, piece: &mut [u8], words: &mut [u16])
+fn list(reader: Reader, piece: &mut [u8], words: &mut [u16], text: &mut [u8])
     requires { ⌜ 1 ≤ length (now piece) ⌝ }
     requires { ⌜ length (now piece) ≤ 65536 ⌝ }
+    requires { ⌜ roomFor (length (now words)) ≤ length (now text) ⌝ }
 {
     let mut next = reader;
     let mut left = u64::MAX;
     while left >= 65536 {
         let n = fill(piece);
-        next = list_piece(next, &piece[..n], words);
+        next = list_piece(next, &piece[..n], words, text);
         left -= n as u64;
         if n < piece.len() {
-            show::end(next, u64::MAX - left);
+            show::end(u64::MAX - left, next.skipped, next.n);
             return;
         }
     }
 }
 
 // The same with the buffers' fronts.
-fn list_by(reader: Reader, buffer: &mut [u8], cut: usize, words: &mut [u16], room: usize)
+fn list_by(
+    reader: Reader,
+    buffer: &mut [u8],
+    cut: usize,
+    words: &mut [u16],
+    room: usize,
+    text: &mut [u8],
+)
     requires { ⌜ (1 ≤ cut) × (cut ≤ 65536) ⌝ }
     requires { ⌜ cut ≤ length (now buffer) ⌝ }
     requires { ⌜ room ≤ length (now words) ⌝ }
+    requires { ⌜ roomFor room ≤ length (now text) ⌝ }
 {
-    list(reader, &mut buffer[..cut], &mut words[..room]);
+    list(reader, &mut buffer[..cut], &mut words[..room], text);
 }
 
 fn run(code: u8, cut: usize, room: usize)
@@ -111,7 +125,8 @@ fn run(code: u8, cut: usize, room: usize)
     let reader = told.reader;
     let mut input = [0u8; MOST_CUT];
     let mut words = [0u16; MOST_ROOM];
-    list_by(reader, &mut input, cut, &mut words, room);
+    let mut text = [0u8; TEXT];
+    list_by(reader, &mut input, cut, &mut words, room, &mut text);
 }
 
 fn usage() {

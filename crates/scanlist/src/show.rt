@@ -1,87 +1,66 @@
-// Printing what a call gives, line by line.
+// Printing what a call gives, each text composed in a buffer that has room for it and written whole.
 use libc::STDOUT_FILENO;
+use paper::refusal::Written;
 use stream::Phase;
-use stream::Reader;
 use stream::Stop;
+ghost use mathlib.Core.Path.{_≡_};
 ghost use Prim.Native.Nat.{_≤_};
+ghost use lib.ListN.{length, take};
+ghost use Rattle.io.specs.Counts.{Counts};
+ghost use Rattle.text.specs.Refused.{refusedLine};
+ghost use Rattle.scantext.specs.Lines.{callText, endLine, roomFor};
 
-fn wide(n: u16) -> u64 {
-    n as u64
-}
-
-fn print(label: &[u8], n: u64) {
-    io::write_all(STDOUT_FILENO, label);
-    io::print_decimal(STDOUT_FILENO, n);
-}
-
-// The line of a sample, of its three words.
-fn sample(angle: u16, distance: u16, mark: u16) {
-    print(b"sample ", wide(mark % 2));
-    print(b" ", wide(mark / 2));
-    print(b" ", wide(angle));
-    print(b" ", wide(distance));
-    io::write_all(STDOUT_FILENO, b"\n");
-}
-
-// The lines of a row of words.
-pub fn row(words: &[u16]) {
-    let mut i: usize = 0;
-    while words.len() - i >= 3 {
-        sample(words[i], words[i + 1], words[i + 2]);
-        i += 3;
-    }
-}
-
-fn reply_bytes(phase: Phase) -> usize
-    ensures { λ r. ⌜ r ≤ 20 ⌝ }
+// The text of a call that began in a phase, at the front of the buffer, and its length.
+fn call_text(phase: Phase, words: &[u16], stop: Stop, reply: &[u8; 20], text: &mut [u8]) -> usize
+    requires { ⌜ roomFor (length (now words)) ≤ length (now text) ⌝ }
+    ensures counts { λ r. ⌜ Counts r (now (text .exit)) ⌝ }
+    ensures shows { λ r. ⌜ take r (now (text .exit)) ≡ callText phase (now (words .entry)) stop (now (reply .entry)) ⌝ }
 {
-    match phase {
-        Phase::HealthReply => 3,
-        _ => 20,
+    match scantext::given(phase, words, stop, reply, text) {
+        Written::Bytes(n) => n,
+        Written::Refused(_) => 0,
     }
 }
 
-fn hex(b: u8) {
-    io::print_hex(STDOUT_FILENO, b as u64, 2);
-}
-
-// The bytes of a reply.
-fn reply(bytes: &[u8; 20], n: usize)
-    requires { ⌜ n ≤ 20 ⌝ }
+// The lines of a call.
+pub fn call(phase: Phase, words: &[u16], stop: Stop, reply: &[u8; 20], text: &mut [u8])
+    requires { ⌜ roomFor (length (now words)) ≤ length (now text) ⌝ }
 {
-    io::write_all(STDOUT_FILENO, b"reply ");
-    let mut i: usize = 0;
-    while i < n {
-        hex(bytes[i]);
-        i += 1;
-    }
-    io::write_all(STDOUT_FILENO, b"\n");
+    let n = call_text(phase, words, stop, reply, text);
+    io::write_all(STDOUT_FILENO, &text[..n]);
 }
 
-// The line of the thing that ended a call that began in a phase, if one did.
-pub fn stop(phase: Phase, stop: Stop, bytes: &[u8; 20]) {
-    match stop {
-        Stop::AllTaken => {}
-        Stop::NoRoom => {}
-        Stop::Descriptor => {
-            io::write_all(STDOUT_FILENO, b"descriptor\n");
-        }
-        Stop::Reply => reply(bytes, reply_bytes(phase)),
-        Stop::BadHealth => {
-            io::write_all(STDOUT_FILENO, b"bad health\n");
-        }
+fn end_text(taken: u64, skipped: u32, held: u8, text: &mut [u8]) -> usize
+    requires { ⌜ 59 ≤ length (now text) ⌝ }
+    ensures counts { λ r. ⌜ Counts r (now (text .exit)) ⌝ }
+    ensures shows { λ r. ⌜ take r (now (text .exit)) ≡ endLine taken skipped held ⌝ }
+{
+    match scantext::end(taken, skipped, held, text) {
+        Written::Bytes(n) => n,
+        Written::Refused(_) => 0,
     }
 }
 
 // The last line.
-pub fn end(reader: Reader, taken: u64) {
-    print(b"end taken ", taken);
-    print(b" skipped ", reader.skipped as u64);
-    print(b" held ", reader.n as u64);
-    io::write_all(STDOUT_FILENO, b"\n");
+pub fn end(taken: u64, skipped: u32, held: u8) {
+    let mut text = [0u8; 59];
+    let n = end_text(taken, skipped, held, &mut text);
+    io::write_all(STDOUT_FILENO, &text[..n]);
+}
+
+fn refused_text(number: u8, text: &mut [u8]) -> usize
+    requires { ⌜ 12 ≤ length (now text) ⌝ }
+    ensures counts { λ r. ⌜ Counts r (now (text .exit)) ⌝ }
+    ensures shows { λ r. ⌜ take r (now (text .exit)) ≡ refusedLine number ⌝ }
+{
+    match scantext::refused(number, text) {
+        Written::Bytes(n) => n,
+        Written::Refused(_) => 0,
+    }
 }
 
 pub fn refused(number: u8) {
-    print(b"refused ", number as u64);
-    io::write_all(STDOUT_FILENO, b"\n");
+    let mut text = [0u8; 12];
+    let n = refused_text(number, &mut text);
+    io::write_all(STDOUT_FILENO, &text[..n]);
 }

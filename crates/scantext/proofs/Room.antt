@@ -18,6 +18,7 @@ use Rattle.paper.proofs.Outcome.{gives-one, gives-refuses, refuse-not, refuse-n
 use Rattle.paper.proofs.Refusals.{written-one}
 use Rattle.paper.proofs.Writing.{fitting-yes, fitting-no, length-over, written-front}
 use Rattle.stream.specs.declared.Phase.{Phase}
+use Rattle.stream.specs.declared.Phase.the-variants.{Idle, SeekInfo, SeekHealth, SeekScan, InfoReply, HealthReply, Scanning}
 use Rattle.stream.specs.declared.Stop.{Stop}
 use Rattle.stream.specs.declared.Stop.the-variants.{AllTaken, NoRoom, Descriptor, Reply, BadHealth}
 use Rattle.text.specs.Decimal.{decimal}
@@ -56,24 +57,32 @@ row-short (a ∷ d ∷ k ∷ ws) h =
     let one = sample-short (k % 2) (k / 2) a d (omega arith) (omega (arith, h .1 .1 .0)) (h .0) (h .1 .0) in
     omega (arith, length-append (sampleLine (k % 2) (k / 2) a d) (rowLines ws), one, row-short ws (h .1 .1 .1))
 
-twenty-most : (p : Phase) (reply : List ℕ) → length reply ≤ 20 → length (take (replyBytes p) reply) ≤ 20
-twenty-most p reply l = omega (arith, length-take (replyBytes p) reply)
+-- a reply is twenty bytes at most
+twenty-most : (p : Phase) → replyBytes p ≤ 20
+unfolding replyBytes
+twenty-most Idle = omega arith
+twenty-most SeekInfo = omega arith
+twenty-most SeekHealth = omega arith
+twenty-most SeekScan = omega arith
+twenty-most InfoReply = omega arith
+twenty-most HealthReply = omega arith
+twenty-most Scanning = omega arith
 
-stop-short : (p : Phase) (stop : Stop) (reply : List ℕ) → length reply ≤ 20 → length (stopLine p stop reply) ≤ 47
+stop-short : (p : Phase) (stop : Stop) (reply : List ℕ) → length (stopLine p stop reply) ≤ 47
 unfolding stopLine replyLine
-stop-short p AllTaken reply l = omega arith
-stop-short p NoRoom reply l = omega arith
-stop-short p Descriptor reply l = omega arith
-stop-short p Reply reply l =
+stop-short p AllTaken reply = omega arith
+stop-short p NoRoom reply = omega arith
+stop-short p Descriptor reply = omega arith
+stop-short p Reply reply =
     let w = take (replyBytes p) reply in
-    omega (arith, length-append (replyWord ++ flatMap hex w) newline, length-append replyWord (flatMap hex w), hexes-long w, twenty-most p reply l)
-stop-short p BadHealth reply l = omega arith
+    omega (arith, length-append (replyWord ++ flatMap hex w) newline, length-append replyWord (flatMap hex w), hexes-long w, length-take (replyBytes p) reply, twenty-most p)
+stop-short p BadHealth reply = omega arith
 
--- words of 16 bits, and twenty bytes: what code can hand over
-pub call-short : (p : Phase) (words : List ℕ) (stop : Stop) (reply : List ℕ) → Each (λ (w : ℕ). w < 65536) words → length reply ≤ 20
+-- of words of 16 bits
+pub call-short : (p : Phase) (words : List ℕ) (stop : Stop) (reply : List ℕ) → Each (λ (w : ℕ). w < 65536) words
     → length (callText p words stop reply) ≤ roomFor (length words)
 unfolding callText
-call-short p words stop reply h l = omega (arith, length-append (rowLines words) (stopLine p stop reply), row-short words h, stop-short p stop reply l)
+call-short p words stop reply h = omega (arith, length-append (rowLines words) (stopLine p stop reply), row-short words h, stop-short p stop reply)
 
 pub end-short : (taken skipped held : ℕ) → taken < 18446744073709551616 → skipped < 4294967296 → held < 256 → length (endLine taken skipped held) ≤ 59
 unfolding endLine

@@ -55,10 +55,10 @@ each-below [] f = tt
 each-below (w ∷ ws) f = (f 0, each-below ws (λ i. f (suc i)))
 
 module _ (p : Phase) (words : List ℕ) (stop : Stop) (reply : List ℕ) {was is : List ℕ} {r : Written}
-    (small : (i : ℕ) → getD words i 0 < 65536) (few : length reply ≤ 20) (room : roomFor (length words) ≤ length was)
+    (small : (i : ℕ) → getD words i 0 < 65536) (room : roomFor (length words) ≤ length was)
     (w : Writes (callOut (length was) p words stop reply) was r is) where
   fits : length (callText p words stop reply) ≤ length was
-  fits = omega (arith, call-short p words stop reply (each-below words small) few)
+  fits = omega (arith, call-short p words stop reply (each-below words small))
 
   as-line : Writes (gives (callText p words stop reply)) was r is
   unfolding callOut

@@ -1,16 +1,17 @@
 -- `scanlist::list` is safe and ends.
 use Prim.Native.Nat.{_≤_}
-use lib.ListN.{length}
 use mathlib.Core.Path.{_≡_}
+use native.Mathlib.Omega.{arith}
+use lib.ListN.{length}
 use borrow.Author.Needs.{needs}
 use Rattle.scanlist.proofs.list.Statement.{statement}
 use Rattle.scanlist.proofs.list.Tie as tie
 
 abbrev Inv-loop : tie.InvT-loop
-Inv-loop piece₀ words₀ next₀ left₀ piece words next left = (length piece ≡ length piece₀) × (length words ≡ length words₀) × (left ≤ 18446744073709551615)
+Inv-loop piece₀ words₀ text₀ next₀ left₀ piece words text next left = (length piece ≡ length piece₀) × (length words ≡ length words₀) × (length text ≡ length text₀) × (left ≤ 18446744073709551615)
 
 abbrev μ-loop : tie.MeasureT-loop
-μ-loop piece₀ words₀ next₀ left₀ piece words next left = left
+μ-loop piece₀ words₀ text₀ next₀ left₀ piece words text next left = left
 
 loop-holds : tie.Need-loop-holds Inv-loop μ-loop
 loop-holds c = search needs
@@ -25,7 +26,8 @@ slice-aggregate-list-piece : tie.Need-slice-aggregate-list-piece Inv-loop μ-loo
 slice-aggregate-list-piece c = search needs
 
 list-piece-requires : tie.Need-list-piece-requires Inv-loop μ-loop
-list-piece-requires c κs = search needs
+list-piece-requires c κs = let inv = c .before .before .before .before .before .before .before .before .loop .inv in
+    omega (arith, inv .1, inv .2, c .before .before .before .before .before .before .before .before .before .before .before .before .pre .1 .1)
 
 sub-left : tie.Need-sub-left Inv-loop μ-loop
 sub-left c = search needs
@@ -42,6 +44,9 @@ same-length c = search needs
 same-length-2 : tie.Need-same-length-2 Inv-loop μ-loop
 same-length-2 c = search needs
 
+same-length-3 : tie.Need-same-length-3 Inv-loop μ-loop
+same-length-3 c = search needs
+
 returns : tie.Need-returns Inv-loop μ-loop
 returns c = search needs
 
@@ -51,11 +56,14 @@ loop-less c = search needs
 loop-again : tie.Need-loop-again Inv-loop μ-loop
 loop-again c = search needs
 
-same-length-3 : tie.Need-same-length-3 Inv-loop μ-loop
-same-length-3 c = search needs
-
 same-length-4 : tie.Need-same-length-4 Inv-loop μ-loop
 same-length-4 c = search needs
+
+same-length-5 : tie.Need-same-length-5 Inv-loop μ-loop
+same-length-5 c = search needs
+
+same-length-6 : tie.Need-same-length-6 Inv-loop μ-loop
+same-length-6 c = search needs
 
 returns-2 : tie.Need-returns-2 Inv-loop μ-loop
 returns-2 c = search needs
@@ -76,9 +84,11 @@ list-spec =
     end-requires
     same-length
     same-length-2
+    same-length-3
     returns
     loop-less
     loop-again
-    same-length-3
     same-length-4
+    same-length-5
+    same-length-6
     returns-2)

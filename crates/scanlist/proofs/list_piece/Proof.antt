@@ -5,12 +5,12 @@ use mathlib.Core.List.{List}
 use native.Mathlib.Omega.{arith}
 use lib.ListN.{length, take, drop, length-drop}
 use lib.Seq.{length-take-le}
+use borrow.Author.Needs.{needs}
 use Rattle.paper.proofs.Writing.{length-over}
 use Rattle.stream.specs.Promises.{Reads}
 use Rattle.stream.specs.declared.Reader.{Reader}
 use Rattle.stream.specs.declared.Reading.{Reading}
 use Rattle.stream.proofs.GoesOn.{taken-within, words-within}
-use borrow.Author.Needs.{needs}
 use Rattle.scanlist.proofs.list_piece.Statement.{statement}
 use Rattle.scanlist.proofs.list_piece.Tie as tie
 
@@ -23,10 +23,10 @@ row-size : {s : Reader} {input was row : List ℕ} {r : Reading} → Reads s inp
 row-size {s} {input} {was} h = ap length (h .row) ∙ length-over _ was (rw (h .words) at (words-within h))
 
 abbrev Inv-loop : tie.InvT-loop
-Inv-loop input words₀ next₀ at₀ words next at = (at ≤ length input) × (length words ≡ length words₀)
+Inv-loop input words₀ text₀ next₀ at₀ words text next at = (at ≤ length input) × (length words ≡ length words₀) × (length text ≡ length text₀)
 
 abbrev μ-loop : tie.MeasureT-loop
-μ-loop input words₀ next₀ at₀ words next at = length input - at
+μ-loop input words₀ text₀ next₀ at₀ words text next at = length input - at
 
 loop-holds : tie.Need-loop-holds Inv-loop μ-loop
 loop-holds c = search needs
@@ -43,41 +43,47 @@ part-read-end c = search needs
 read-requires : tie.Need-read-requires Inv-loop μ-loop
 read-requires c κs = search needs
 
-slice-reshare-prefix-row : tie.Need-slice-reshare-prefix-row Inv-loop μ-loop
-slice-reshare-prefix-row c = let r = c .before .before .read .ensures in omega (arith, words-within r, row-size r)
+slice-reshare-prefix-call : tie.Need-slice-reshare-prefix-call Inv-loop μ-loop
+slice-reshare-prefix-call c = let r = c .before .before .before .read .ensures in omega (arith, words-within r, row-size r)
 
-slice-aggregate-row : tie.Need-slice-aggregate-row Inv-loop μ-loop
-slice-aggregate-row c = let r = c .before .before .before .read .ensures in sym (length-take-le _ _ (omega (arith, words-within r, row-size r)))
+slice-aggregate-call : tie.Need-slice-aggregate-call Inv-loop μ-loop
+slice-aggregate-call c = let r = c .before .before .before .before .read .ensures in sym (length-take-le _ _ (omega (arith, words-within r, row-size r)))
 
-row-requires : tie.Need-row-requires Inv-loop μ-loop
-row-requires c κs = search needs
-
-stop-requires : tie.Need-stop-requires Inv-loop μ-loop
-stop-requires c κs = search needs
+call-requires : tie.Need-call-requires Inv-loop μ-loop
+call-requires c κs = let read = c .before .before .before .before .before .before .read in
+    let inv = c .before .before .before .before .before .before .before .before .before .before .loop .inv in
+    let r = read .ensures in
+    let most = length-take-le (read .result .words) (read .last .1 .1 .0) (omega (arith, words-within r, row-size r)) in
+    omega (arith, most, words-within r, inv .1, inv .2, c .before .before .before .before .before .before .before .before .before .before .before .before .before .before .pre)
 
 same-length : tie.Need-same-length Inv-loop μ-loop
 same-length c = search needs
+
+same-length-2 : tie.Need-same-length-2 Inv-loop μ-loop
+same-length-2 c = search needs
 
 returns : tie.Need-returns Inv-loop μ-loop
 returns c = search needs
 
 add-at : tie.Need-add-at Inv-loop μ-loop
-add-at c = let loop = c .before .before .before .before .before .before .before .before .before .before .before .before .before .before .before in
-    let start = loop .before .before .before in
-    let r = c .before .before .before .before .before .before .before .before .before .before .before .read .ensures in
-    omega (arith, start .good .1 .0 .0, within (start .args .input .now) (loop .loop .at) (loop .loop .inv .0) r)
+add-at c = let loop = c .before .before .before .before .before .before .before .before .before .before .before .before .before .before .before .before .before in
+    let start = c .before .before .before .before .before .before .before .before .before .before .before .before .before .before .before .before .before .before .before .before .before in
+    omega (arith, within (start .args .input .now) (loop .loop .at) (loop .loop .inv .0) (c .before .before .before .before .before .before .before .before .before .before .before .before .before .read .ensures))
 
 loop-less : tie.Need-loop-less Inv-loop μ-loop
 loop-less c = search needs
 
 loop-again : tie.Need-loop-again Inv-loop μ-loop
-loop-again c = let loop = c .before .before .before .before .before .before .before .before .before .before .before .before .before .before .before in
-    let start = loop .before .before .before in
-    let r = c .before .before .before .before .before .before .before .before .before .before .before .read .ensures in
-    (omega (arith, within (start .args .input .now) (loop .loop .at) (loop .loop .inv .0) r), row-size r ∙ loop .loop .inv .1)
+loop-again c = let loop = c .before .before .before .before .before .before .before .before .before .before .before .before .before .before .before .before .before in
+    let start = c .before .before .before .before .before .before .before .before .before .before .before .before .before .before .before .before .before .before .before .before .before in
+    let r = c .before .before .before .before .before .before .before .before .before .before .before .before .before .read .ensures in
+    (omega (arith, within (start .args .input .now) (loop .loop .at) (loop .loop .inv .0) r), row-size r ∙ loop .loop .inv .1, omega (arith, loop .loop .inv .2))
 
-same-length-2 : tie.Need-same-length-2 Inv-loop μ-loop
-same-length-2 c = search needs
+same-length-3 : tie.Need-same-length-3 Inv-loop μ-loop
+same-length-3 c = search needs
+
+same-length-4 : tie.Need-same-length-4 Inv-loop μ-loop
+same-length-4 c = search needs
 
 returns-2 : tie.Need-returns-2 Inv-loop μ-loop
 returns-2 c = search needs
@@ -93,14 +99,15 @@ list-piece-spec =
     part-read-start
     part-read-end
     read-requires
-    slice-reshare-prefix-row
-    slice-aggregate-row
-    row-requires
-    stop-requires
+    slice-reshare-prefix-call
+    slice-aggregate-call
+    call-requires
     same-length
+    same-length-2
     returns
     add-at
     loop-less
     loop-again
-    same-length-2
+    same-length-3
+    same-length-4
     returns-2)
