@@ -49,6 +49,7 @@ extern "C" {
 }
 
 /// `bk_record_write`
+#[inline]
 pub fn record_write(
     number: u32,
     count: u16,
@@ -62,30 +63,35 @@ pub fn record_write(
 }
 
 /// `bk_record_check`
+#[inline]
 pub fn record_check(rec: &[u8]) -> u8 {
     // SAFETY: the bytes are lent for the call.
     unsafe { bk_record_check(rec.as_ptr(), rec.len()) }
 }
 
 /// `bk_record_number`
+#[inline]
 pub fn record_number(rec: &[u8]) -> Number {
     // SAFETY: the bytes are lent for the call.
     unsafe { bk_record_number(rec.as_ptr(), rec.len()) }
 }
 
 /// `bk_record_count`
+#[inline]
 pub fn record_count(rec: &[u8]) -> Count {
     // SAFETY: the bytes are lent for the call.
     unsafe { bk_record_count(rec.as_ptr(), rec.len()) }
 }
 
 /// `bk_record_cell`
+#[inline]
 pub fn record_cell(rec: &[u8], c: usize) -> Cell {
     // SAFETY: the bytes are lent for the call.
     unsafe { bk_record_cell(rec.as_ptr(), rec.len(), c) }
 }
 
 /// `bk_record_serial`
+#[inline]
 pub fn record_serial(rec: &[u8], out: &mut [u8]) -> Written {
     // SAFETY: both are lent for the call, the output alone for writing.
     unsafe { bk_record_serial(rec.as_ptr(), rec.len(), out.as_mut_ptr(), out.len()) }

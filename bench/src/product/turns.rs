@@ -56,24 +56,28 @@ extern "C" {
 impl Gatherer {
     /// `bk_gatherer_new`
     #[allow(clippy::new_without_default)] // the default is all zeros, this is the product's
+    #[inline]
     pub fn new() -> Gatherer {
         // SAFETY: no pointer is handed over.
         unsafe { bk_gatherer_new() }
     }
 
     /// `bk_gatherer_request`
+    #[inline]
     pub fn request(self) -> Gatherer {
         // SAFETY: no pointer is handed over.
         unsafe { bk_gatherer_request(self) }
     }
 
     /// `bk_gatherer_sample`
+    #[inline]
     pub fn sample(self, sample: Sample, filling: &mut Cells, closed: &mut Cells) -> Gathered {
         // SAFETY: both arrays have the length that the header asks for, and are lent for the call.
         unsafe { bk_gatherer_sample(self, sample, filling.as_mut_ptr(), closed.as_mut_ptr()) }
     }
 
     /// `bk_gatherer_row`
+    #[inline]
     pub fn row(self, words: &[u16], filling: &mut Cells, closed: &mut Cells) -> RowGathered {
         let (filling, closed) = (filling.as_mut_ptr(), closed.as_mut_ptr());
         // SAFETY: as above; the words are lent for reading.

@@ -2,6 +2,7 @@ pub mod Parts
 pub mod Fields
 pub mod Cells
 pub mod Places
+pub mod Counted
 pub mod Putting
 pub mod Writing
 pub mod Reading
