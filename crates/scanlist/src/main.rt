@@ -13,6 +13,7 @@ ghost use Prim.Native.Nat.{_≤_};
 ghost use lib.ListN.{length};
 ghost use Rattle.io.specs.Counts.{Counts};
 ghost use Rattle.scantext.specs.Lines.{roomFor};
+ghost use Rattle.scantext.specs.Listing.{Lists};
 
 const CUT: usize = 4096;
 
@@ -55,7 +56,9 @@ fn fill(piece: &mut [u8]) -> usize
 
 // Reads one piece to its end, and prints what is given.
 fn list_piece(reader: Reader, input: &[u8], words: &mut [u16], text: &mut [u8]) -> Reader
+    requires { ⌜ 3 ≤ length (now words) ⌝ }
     requires { ⌜ roomFor (length (now words)) ≤ length (now text) ⌝ }
+    ensures { λ r. ⌜ Lists reader (now (input .entry)) r ⌝ }
 {
     let mut next = reader;
     let mut at: usize = 0;
@@ -80,6 +83,7 @@ fn list_piece(reader: Reader, input: &[u8], words: &mut [u16], text: &mut [u8]) 
 fn list(reader: Reader, piece: &mut [u8], words: &mut [u16], text: &mut [u8])
     requires { ⌜ 1 ≤ length (now piece) ⌝ }
     requires { ⌜ length (now piece) ≤ 65536 ⌝ }
+    requires { ⌜ 3 ≤ length (now words) ⌝ }
     requires { ⌜ roomFor (length (now words)) ≤ length (now text) ⌝ }
 {
     let mut next = reader;
@@ -106,7 +110,7 @@ fn list_by(
 )
     requires { ⌜ (1 ≤ cut) × (cut ≤ 65536) ⌝ }
     requires { ⌜ cut ≤ length (now buffer) ⌝ }
-    requires { ⌜ room ≤ length (now words) ⌝ }
+    requires { ⌜ (3 ≤ room) × (room ≤ length (now words)) ⌝ }
     requires { ⌜ roomFor room ≤ length (now text) ⌝ }
 {
     list(reader, &mut buffer[..cut], &mut words[..room], text);
@@ -114,7 +118,7 @@ fn list_by(
 
 fn run(code: u8, cut: usize, room: usize)
     requires { ⌜ (1 ≤ cut) × (cut ≤ 65536) ⌝ }
-    requires { ⌜ room ≤ 24576 ⌝ }
+    requires { ⌜ (3 ≤ room) × (room ≤ 24576) ⌝ }
 {
     let told = Reader::new().tell(Request(code));
     let answer = told.answer;
@@ -158,7 +162,7 @@ fn main() {
         usage();
         return;
     }
-    if room == 0 {
+    if room < 3 {
         usage();
         return;
     }

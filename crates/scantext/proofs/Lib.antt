@@ -4,5 +4,6 @@ pub mod Room
 pub mod Shown
 pub mod CallLines
 pub mod CutAnywhere
+pub mod Going
 pub mod Determined
 pub mod Examples

@@ -28,6 +28,10 @@ pub data Listed : Reader → List ℕ → List ℕ → Reader → Type 0 where
   reads : {s z : Reader} {text : List ℕ} (input was row : List ℕ) (r : Reading) (bs : List ℕ) → Reads s input was r row
       → Listed (r .reader) (drop (r .taken) input ++ bs) text z → Listed s (input ++ bs) (readText (s .phase) r row ++ text) z
 
+-- from s to z over the bytes bs, whatever is printed
+unfoldable pub Lists : Reader → List ℕ → Reader → Type 0
+Lists s bs z = (text : List ℕ) × Listed s bs text z
+
 -- the text by definition: of one run over all bytes, from phase p with nothing held
 unfoldable pub runText : Phase → List ℕ → List ℕ
 runText p bs =

@@ -27,7 +27,8 @@ slice-aggregate-list-piece c = search needs
 
 list-piece-requires : tie.Need-list-piece-requires Inv-loop μ-loop
 list-piece-requires c κs = let inv = c .before .before .before .before .before .before .before .before .loop .inv in
-    omega (arith, inv .1, inv .2, c .before .before .before .before .before .before .before .before .before .before .before .before .pre .1 .1)
+    let pre = c .before .before .before .before .before .before .before .before .before .before .before .before .pre in
+    (omega (arith, inv .1, pre .1 .1 .0), omega (arith, inv .1, inv .2, pre .1 .1 .1))
 
 sub-left : tie.Need-sub-left Inv-loop μ-loop
 sub-left c = search needs

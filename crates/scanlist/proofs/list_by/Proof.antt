@@ -16,14 +16,14 @@ slice-relend-prefix-list-2 : tie.Need-slice-relend-prefix-list-2
 slice-relend-prefix-list-2 c = search needs
 
 slice-aggregate-list-2 : tie.Need-slice-aggregate-list-2
-slice-aggregate-list-2 c = sym (length-take-le _ _ (c .before .before .before .before .before .pre .1 .1 .0))
+slice-aggregate-list-2 c = sym (length-take-le _ _ (c .before .before .before .before .before .pre .1 .1 .0 .1))
 
 list-requires : tie.Need-list-requires
 list-requires c κs = let start = c .before .before .before .before .before .before in
     let pre = start .pre in
     let piece = length-take-le (start .args .cut) (start .args .buffer .now) (pre .1 .0) in
-    let row = length-take-le (start .args .room) (start .args .words .now) (pre .1 .1 .0) in
-    (omega (arith, piece, pre .0 .0), (omega (arith, piece, pre .0 .1), omega (arith, row, pre .1 .1 .1)))
+    let row = length-take-le (start .args .room) (start .args .words .now) (pre .1 .1 .0 .1) in
+    (omega (arith, piece, pre .0 .0), (omega (arith, piece, pre .0 .1), (omega (arith, row, pre .1 .1 .0 .0), omega (arith, row, pre .1 .1 .1))))
 
 same-length : tie.Need-same-length
 same-length c = search needs

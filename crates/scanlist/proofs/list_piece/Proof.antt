@@ -1,38 +1,35 @@
--- `scanlist::list_piece` is safe and ends.
-use Prim.Native.Nat.{ℕ, _+_, _≤_, _-_}
+-- `scanlist::list_piece` meets its contract.
+use Prim.Native.Nat.{ℕ, _-_}
 use mathlib.Core.Path.{_≡_, sym, ap, _∙_}
 use mathlib.Core.List.{List}
 use native.Mathlib.Omega.{arith}
-use lib.ListN.{length, take, drop, length-drop}
+use lib.ListN.{length}
 use lib.Seq.{length-take-le}
 use borrow.Author.Needs.{needs}
 use Rattle.paper.proofs.Writing.{length-over}
 use Rattle.stream.specs.Promises.{Reads}
 use Rattle.stream.specs.declared.Reader.{Reader}
 use Rattle.stream.specs.declared.Reading.{Reading}
-use Rattle.stream.proofs.GoesOn.{taken-within, words-within}
+use Rattle.stream.proofs.GoesOn.{words-within}
+use Rattle.scantext.proofs.Going.{Going, going-start, going-next, going-on, going-end}
 use Rattle.scanlist.proofs.list_piece.Statement.{statement}
 use Rattle.scanlist.proofs.list_piece.Tie as tie
-
--- a call takes no more than what is left
-within : {s : Reader} {was row : List ℕ} {r : Reading} (input : List ℕ) (at : ℕ) → at ≤ length input → Reads s (take (length input - at) (drop at input)) was r row → at + r .taken ≤ length input
-within input at l h = omega (arith, taken-within h, length-take-le (length input - at) (drop at input) (omega (arith, length-drop at input)))
 
 -- the row keeps its length
 row-size : {s : Reader} {input was row : List ℕ} {r : Reading} → Reads s input was r row → length row ≡ length was
 row-size {s} {input} {was} h = ap length (h .row) ∙ length-over _ was (rw (h .words) at (words-within h))
 
 abbrev Inv-loop : tie.InvT-loop
-Inv-loop input words₀ text₀ next₀ at₀ words text next at = (at ≤ length input) × (length words ≡ length words₀) × (length text ≡ length text₀)
+Inv-loop input words₀ text₀ next₀ at₀ words text next at = Going next₀ input next at × (length words ≡ length words₀) × (length text ≡ length text₀)
 
 abbrev μ-loop : tie.MeasureT-loop
 μ-loop input words₀ text₀ next₀ at₀ words text next at = length input - at
 
 loop-holds : tie.Need-loop-holds Inv-loop μ-loop
-loop-holds c = search needs
+loop-holds c = (going-start _ _, search needs, search needs)
 
 sub-read : tie.Need-sub-read Inv-loop μ-loop
-sub-read c = search needs
+sub-read c = c .before .loop .inv .0 .within
 
 part-read-start : tie.Need-part-read-start Inv-loop μ-loop
 part-read-start c = search needs
@@ -54,7 +51,7 @@ call-requires c κs = let read = c .before .before .before .before .before .befo
     let inv = c .before .before .before .before .before .before .before .before .before .before .loop .inv in
     let r = read .ensures in
     let most = length-take-le (read .result .words) (read .last .1 .1 .0) (omega (arith, words-within r, row-size r)) in
-    omega (arith, most, words-within r, inv .1, inv .2, c .before .before .before .before .before .before .before .before .before .before .before .before .before .before .pre)
+    omega (arith, most, words-within r, inv .1, inv .2, c .before .before .before .before .before .before .before .before .before .before .before .before .before .before .pre .1)
 
 same-length : tie.Need-same-length Inv-loop μ-loop
 same-length c = search needs
@@ -63,21 +60,21 @@ same-length-2 : tie.Need-same-length-2 Inv-loop μ-loop
 same-length-2 c = search needs
 
 returns : tie.Need-returns Inv-loop μ-loop
-returns c = search needs
+returns c = let loop = c .before .before .before .before .before .before .before .before .before .before .before .before .before .before .before .before in
+    let more = going-on (loop .loop .inv .0) (c .before .before .before .before .before .before .before .before .before .before .before .before .read .ensures) (c .before .before .before .before .before .before .before .before .before .before .before .before .before .before .before .loop-test .taken) (omega (arith, loop .loop .inv .1, c .before .before .before .before .before .before .before .before .before .before .before .before .before .before .before .before .before .before .before .before .pre .0)) in
+    absurd (omega (arith, more, c .if1 .taken))
 
 add-at : tie.Need-add-at Inv-loop μ-loop
-add-at c = let loop = c .before .before .before .before .before .before .before .before .before .before .before .before .before .before .before .before .before in
-    let start = c .before .before .before .before .before .before .before .before .before .before .before .before .before .before .before .before .before .before .before .before .before in
-    omega (arith, within (start .args .input .now) (loop .loop .at) (loop .loop .inv .0) (c .before .before .before .before .before .before .before .before .before .before .before .before .before .read .ensures))
+add-at c = let next = going-next (c .before .before .before .before .before .before .before .before .before .before .before .before .before .before .before .before .before .loop .inv .0) (c .before .before .before .before .before .before .before .before .before .before .before .before .before .read .ensures) in
+    omega (arith, next .within, c .before .before .before .before .before .before .before .before .before .before .before .before .before .before .before .before .before .before .before .before .before .good .1 .0 .0)
 
 loop-less : tie.Need-loop-less Inv-loop μ-loop
 loop-less c = search needs
 
 loop-again : tie.Need-loop-again Inv-loop μ-loop
 loop-again c = let loop = c .before .before .before .before .before .before .before .before .before .before .before .before .before .before .before .before .before in
-    let start = c .before .before .before .before .before .before .before .before .before .before .before .before .before .before .before .before .before .before .before .before .before in
     let r = c .before .before .before .before .before .before .before .before .before .before .before .before .before .read .ensures in
-    (omega (arith, within (start .args .input .now) (loop .loop .at) (loop .loop .inv .0) r), row-size r ∙ loop .loop .inv .1, omega (arith, loop .loop .inv .2))
+    (going-next (loop .loop .inv .0) r, row-size r ∙ loop .loop .inv .1, omega (arith, loop .loop .inv .2))
 
 same-length-3 : tie.Need-same-length-3 Inv-loop μ-loop
 same-length-3 c = search needs
@@ -86,7 +83,7 @@ same-length-4 : tie.Need-same-length-4 Inv-loop μ-loop
 same-length-4 c = search needs
 
 returns-2 : tie.Need-returns-2 Inv-loop μ-loop
-returns-2 c = search needs
+returns-2 c = going-end (c .before .loop .inv .0) (c .loop-test .left)
 
 pub list-piece-spec : {M : Type 1} → statement M
 list-piece-spec =

@@ -36,7 +36,7 @@ slice-aggregate-list-by-3 c = search needs
 
 list-by-requires : tie.Need-list-by-requires
 list-by-requires c κs = let pre = c .before .before .before .before .before .before .before .before .pre in
-    (pre .0, (omega (arith, pre .0 .1), (omega (arith, pre .1), omega (arith, pre .1))))
+    (pre .0, (omega (arith, pre .0 .1), ((pre .1 .0, omega (arith, pre .1 .1)), omega (arith, pre .1 .1))))
 
 returns-2 : tie.Need-returns-2
 returns-2 c = search needs
