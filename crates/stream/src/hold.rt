@@ -4,7 +4,7 @@ use crate::Reader;
 ghost use mathlib.Core.Path.{_≡_};
 ghost use mathlib.Core.List.{[], _++_};
 ghost use Prim.Native.Nat.{_+_, _≤_, min};
-ghost use lib.ListN.{length, take};
+ghost use lib.ListN.{length, take, replicate};
 ghost use Rattle.stream.specs.State.{twenty, capped};
 ghost use Rattle.stream.specs.inner.Hold.{holding, Copied};
 
@@ -34,15 +34,14 @@ fn copy(into: &mut [u8], at: usize, from: &[u8], n: usize)
     }
 }
 
-// The first h bytes held and the first m of the input, in one array.
-pub fn join(held: &[u8; 20], h: usize, input: &[u8], m: usize) -> [u8; 20]
+// The first h bytes held and the first m of the input, in an array of zeros.
+pub fn join(joint: &mut [u8], held: &[u8], h: usize, input: &[u8], m: usize)
+    requires { ⌜ (now joint ≡ replicate 20 0) × (length (now held) ≡ 20) ⌝ }
     requires { ⌜ (h + m ≤ 20) × (m ≤ length (now input)) ⌝ }
-    ensures { λ r. ⌜ (r ≡ twenty (take h (now (held .entry)) ++ take m (now (input .entry)))) × (length (now (held .entry)) ≡ 20) ⌝ }
+    ensures { λ _. ⌜ now (joint .exit) ≡ twenty (take h (now (held .entry)) ++ take m (now (input .entry))) ⌝ }
 {
-    let mut a = [0u8; 20];
-    copy(&mut a, 0, held, h);
-    copy(&mut a, h, input, m);
-    a
+    copy(joint, 0, held, h);
+    copy(joint, h, input, m);
 }
 
 fn count(n: usize) -> u8

@@ -93,14 +93,26 @@ impl Reader {
         ensures { λ r. ⌜ Reads self (now (input .entry)) (now (words .entry)) r (now (words .exit)) ⌝ }
     {
         let phase = self.phase;
+        let n = self.n;
+        let held = self.held;
+        let skipped = self.skipped;
         match phase {
-            Phase::Idle => reply::idle(self.skipped, input),
-            Phase::SeekInfo => held::find(self, Phase::InfoReply, &Descriptor::INFO, input),
-            Phase::SeekHealth => held::find(self, Phase::HealthReply, &Descriptor::HEALTH, input),
-            Phase::SeekScan => held::find(self, Phase::Scanning, &Descriptor::SCAN, input),
-            Phase::InfoReply => held::gather(self, Info::BYTES, input),
-            Phase::HealthReply => held::gather(self, Health::BYTES, input),
-            Phase::Scanning => held::scan(self, input, words),
+            Phase::Idle => reply::idle(skipped, input),
+            Phase::SeekInfo => {
+                let next = Phase::InfoReply;
+                held::find(n, &held, skipped, phase, next, &Descriptor::INFO, input)
+            }
+            Phase::SeekHealth => {
+                let next = Phase::HealthReply;
+                held::find(n, &held, skipped, phase, next, &Descriptor::HEALTH, input)
+            }
+            Phase::SeekScan => {
+                let next = Phase::Scanning;
+                held::find(n, &held, skipped, phase, next, &Descriptor::SCAN, input)
+            }
+            Phase::InfoReply => held::gather(n, &held, skipped, phase, Info::BYTES, input),
+            Phase::HealthReply => held::gather(n, &held, skipped, phase, Health::BYTES, input),
+            Phase::Scanning => held::scan(n, &held, skipped, input, words),
         }
     }
 }

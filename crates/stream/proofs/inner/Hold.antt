@@ -5,8 +5,8 @@ use Prim.Native.Nat.{ℕ, zero, suc, _+_, _-_, _≤_, _<_}
 use native.Mathlib.Nat.{sub-zero, zero-sub, le-refl}
 use native.Mathlib.Omega.{arith}
 use native.Mathlib.Numerals.{add-one}
-use lib.ListN.{set, getD, length, take, drop, replicate, length-append, length-replicate}
-use lib.Seq.{paste, paste-zero, paste-suc, take-at, take-length, drop-append-add, length-take-le}
+use lib.ListN.{set, getD, length, take, drop, replicate, length-append, length-drop, length-replicate}
+use lib.Seq.{paste, paste-zero, paste-suc, length-paste-head, take-at, take-length, drop-append-add, length-take-le}
 use Rattle.stream.specs.declared.Phase.{Phase}
 use Rattle.stream.specs.declared.Reader.{Reader}
 use Rattle.stream.specs.State.{twenty, capped}
@@ -50,6 +50,11 @@ copied-none d at s = record { same = paste-zero d at s }
 pub copied-more : {d : List ℕ} {at : ℕ} {s : List ℕ} {j : ℕ} {x : List ℕ} → Copied d at s j x → at + j < length d → j < length s
     → Copied d at s (j + 1) (set x (at + j) (getD s j 0))
 copied-more {d} {at} {s} {j} {x} c h k = record { same = rw (c .same, add-one) (paste-suc d at s j 0 h k) }
+
+pub copied-length : {d : List ℕ} {at : ℕ} {s : List ℕ} {n : ℕ} {x : List ℕ} → Copied d at s n x → at + n ≤ length d → n ≤ length s → length x ≡ length d
+copied-length {d} {at} {s} {n} c h l =
+    let e : length (take at d ++ take n s) ≡ at + n = length-paste-head d at s n (omega arith) l in
+    ap length (c .same) ∙ length-append (take at d ++ take n s) (drop (at + n) d) ∙ rw (e, length-drop) (omega arith)
 
 -- held bytes and then some of the input, in an array of zeros
 pub joined-by : {held input a b : List ℕ} {h m : ℕ} → Copied (replicate 20 0) 0 held h a → Copied a h input m b → h ≤ length held → m ≤ length input → h + m ≤ 20

@@ -8,6 +8,10 @@ use Rattle.stream.specs.declared.Phase.{Phase}
 use Rattle.stream.specs.declared.Reader.{Reader}
 use Rattle.stream.specs.State.{twenty}
 
+-- a reader by its fields
+abbrev pub readerOf : Phase → ℕ → List ℕ → ℕ → Reader
+readerOf p n held k = record { phase = p; n = n; held = held; skipped = k }
+
 -- a reader in phase p that holds xs
 unfoldable pub holding : Phase → List ℕ → ℕ → Reader
 holding p xs k = record { phase = p; n = length xs; held = twenty xs; skipped = k }

@@ -19,33 +19,33 @@ enum-told-2 c = search needs
 
 find-requires : tie.Need-find-requires
 unfolding infoDescriptor
-find-requires c κs = seeks-info (c .before .enum-told2 .given .1)
+find-requires c κs = seeks-info (c .before .before .enum-told2 .given .1)
 
 enum-told-3 : tie.Need-enum-told-3
 enum-told-3 c = search needs
 
 find-requires-2 : tie.Need-find-requires-2
 unfolding healthDescriptor
-find-requires-2 c κs = seeks-health (c .before .enum-told3 .given .1)
+find-requires-2 c κs = seeks-health (c .before .before .enum-told3 .given .1)
 
 enum-told-4 : tie.Need-enum-told-4
 enum-told-4 c = search needs
 
 find-requires-3 : tie.Need-find-requires-3
 unfolding scanDescriptor
-find-requires-3 c κs = seeks-scan (c .before .enum-told4 .given .1)
+find-requires-3 c κs = seeks-scan (c .before .before .enum-told4 .given .1)
 
 enum-told-5 : tie.Need-enum-told-5
 enum-told-5 c = search needs
 
 gather-requires : tie.Need-gather-requires
-gather-requires c κs = (info-awaits (c .enum-told5 .given .1), omega arith)
+gather-requires c κs = (info-awaits (c .before .enum-told5 .given .1), omega arith)
 
 enum-told-6 : tie.Need-enum-told-6
 enum-told-6 c = search needs
 
 gather-requires-2 : tie.Need-gather-requires-2
-gather-requires-2 c κs = (health-awaits (c .enum-told6 .given .1), omega arith)
+gather-requires-2 c κs = (health-awaits (c .before .enum-told6 .given .1), omega arith)
 
 enum-told-7 : tie.Need-enum-told-7
 enum-told-7 c = search needs
@@ -75,7 +75,7 @@ same-length : tie.Need-same-length
 same-length c = search needs
 
 returns-7 : tie.Need-returns-7
-returns-7 c = search needs
+returns-7 c = rw (← c .before .before .before .before .before .enum-told7 .given .1) at (c .before .before .scan .ensures)
 
 pub read-spec : {M : Type 1} → statement M
 read-spec =
