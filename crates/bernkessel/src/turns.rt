@@ -5,7 +5,7 @@ use turn::gather::Gathered;
 use turn::gather::Gatherer;
 use turn::gather::RowGathered;
 ghost use mathlib.Core.Path.{_≡_};
-ghost use Rattle.bernkessel.specs.Turn.{gathererIn, gathererOut, gatheredOut, rowOut};
+ghost use Rattle.bernkessel.specs.Turn.{gathererIn, gathererOut, gatheredOut};
 ghost use Rattle.bernkessel.specs.Promises.{GathererFresh, SampleGathered, RowIsGathered};
 
 #[repr(C)]
@@ -65,7 +65,12 @@ pub extern "C" fn bk_gatherer_row(
 ) -> BkRowGathered
     ensures { λ r. ⌜ RowIsGathered gatherer (now (words .entry)) (now (filling .entry)) (now (closed .entry)) r (now (filling .exit)) (now (closed .exit)) ⌝ }
 {
-    row_out(gatherer, gatherer_in(gatherer).row(words, filling, closed))
+    let row = gatherer_in(gatherer).row(words, filling, closed);
+    let gathered = row.gathered;
+    BkRowGathered {
+        gathered: gathered_out(gatherer, gathered),
+        words: row.words,
+    }
 }
 
 pub(crate) fn gatherer_in(c: BkGatherer) -> Gatherer
@@ -101,15 +106,5 @@ fn gathered_out(was: BkGatherer, gathered: Gathered) -> BkGathered
             turn: 0,
             refusal: q.number(),
         },
-    }
-}
-
-fn row_out(was: BkGatherer, row: RowGathered) -> BkRowGathered
-    ensures { λ r. ⌜ r ≡ rowOut was row ⌝ }
-{
-    let gathered = row.gathered;
-    BkRowGathered {
-        gathered: gathered_out(was, gathered),
-        words: row.words,
     }
 }

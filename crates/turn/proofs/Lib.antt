@@ -4,6 +4,8 @@ pub mod Taking
 pub mod Gathering
 pub mod Counts
 pub mod Rows
+pub mod Runs
+pub mod Within
 pub mod Sums
 pub mod Portions
 pub mod Nearest

@@ -1,5 +1,6 @@
 -- `bernkessel::turns::bk_gatherer_row` meets its promise.
 use mathlib.Core.Path.{sym}
+use Rattle.bernkessel.specs.Turn.{rowOut}
 use borrow.Author.Needs.{needs}
 use Rattle.bernkessel.proofs.turns.bk_gatherer_row.Statement.{statement}
 use Rattle.bernkessel.proofs.turns.bk_gatherer_row.Tie as tie
@@ -10,12 +11,14 @@ gatherer-in-requires c κs = search needs
 row-requires : tie.Need-row-requires
 row-requires c κs = search needs
 
-row-out-requires : tie.Need-row-out-requires
-row-out-requires c κs = search needs
+gathered-out-requires : tie.Need-gathered-out-requires
+gathered-out-requires c κs = search needs
 
 returns : tie.Need-returns
-returns c = record { answer = c .before .row .result; kept = rw (sym (c .before .before .before .before .gatherer-in .ensures)) (c .before .row .ensures); handed = c .row-out .ensures }
+unfolding rowOut
+returns c = let w = c .before in
+    record { answer = w .row .result; kept = rw (sym (w .before .before .before .gatherer-in .ensures)) (w .row .ensures); handed = rw (c .gathered-out .ensures) }
 
 pub bk-gatherer-row-spec : {M : Type 1} → statement M
 bk-gatherer-row-spec =
-    tie.close (tie.spec gatherer-in-requires row-requires row-out-requires returns)
+    tie.close (tie.spec gatherer-in-requires row-requires gathered-out-requires returns)
