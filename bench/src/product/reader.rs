@@ -82,6 +82,7 @@ impl Reader {
     }
 
     /// `bk_reader_read`
+    #[inline] // the bench is not to pay for a copy of its own
     pub fn read(self, input: &[u8], words: &mut [u16]) -> Reading {
         // SAFETY: both parts are lent for the call, the words alone for writing.
         unsafe {
