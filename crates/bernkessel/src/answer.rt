@@ -10,7 +10,7 @@ pub struct BkWritten {
     pub refusal: u8,
 }
 
-pub fn answer_out(answer: Answer) -> u8
+pub(crate) fn answer_out(answer: Answer) -> u8
     ensures { λ r. ⌜ r ≡ answerOut answer ⌝ }
 {
     match answer {
@@ -19,7 +19,7 @@ pub fn answer_out(answer: Answer) -> u8
     }
 }
 
-pub fn written_out(written: Written) -> BkWritten
+pub(crate) fn written_out(written: Written) -> BkWritten
     ensures { λ r. ⌜ r ≡ writtenOut written ⌝ }
 {
     match written {
@@ -31,7 +31,7 @@ pub fn written_out(written: Written) -> BkWritten
     }
 }
 
-pub fn flag_out(t: bool) -> u8
+pub(crate) fn flag_out(t: bool) -> u8
     ensures { λ r. ⌜ r ≡ flagOut t ⌝ }
 {
     if t { 1 } else { 0 }

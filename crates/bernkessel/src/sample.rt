@@ -35,7 +35,7 @@ pub const NONE: BkSample = BkSample {
     distance: BkDistanceQ2 { q2: 0 },
 };
 
-pub fn sample_in(c: BkSample) -> Sample
+pub(crate) fn sample_in(c: BkSample) -> Sample
     ensures { λ r. ⌜ r ≡ sampleIn c ⌝ }
 {
     Sample {
@@ -46,7 +46,7 @@ pub fn sample_in(c: BkSample) -> Sample
     }
 }
 
-pub fn sample_out(m: Sample) -> BkSample
+pub(crate) fn sample_out(m: Sample) -> BkSample
     ensures { λ r. ⌜ r ≡ sampleOut m ⌝ }
 {
     BkSample {

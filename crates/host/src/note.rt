@@ -7,7 +7,7 @@ ghost use mathlib.Core.Path.{_≡_};
 ghost use Rattle.host.specs.inner.Noted.{waitedAt, readsInfo, isInfo, keptAt};
 
 // The session behind a stop.
-pub fn waited(session: Session, stop: Stop) -> Session
+pub(crate) fn waited(session: Session, stop: Stop) -> Session
     ensures { λ r. ⌜ r ≡ waitedAt stop session ⌝ }
 {
     match stop {
@@ -20,7 +20,7 @@ pub fn waited(session: Session, stop: Stop) -> Session
 }
 
 // The serial behind a stop with its twenty bytes, of a call that began in a phase.
-pub fn kept(phase: Phase, stop: Stop, reply: &[u8; 20], serial: [u8; 16]) -> [u8; 16]
+pub(crate) fn kept(phase: Phase, stop: Stop, reply: &[u8; 20], serial: [u8; 16]) -> [u8; 16]
     ensures { λ r. ⌜ r ≡ keptAt (isInfo phase stop) (now (reply .entry)) serial ⌝ }
 {
     if is_info(phase, stop) {

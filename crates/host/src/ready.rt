@@ -6,7 +6,7 @@ ghost use Rattle.paper.specs.Writing.{over};
 ghost use Rattle.record.specs.Record.{recordOf};
 
 // A memory of 754 bytes always has room, so that only the count decides.
-pub fn make_ready(
+pub(crate) fn make_ready(
     number: u32,
     count: u16,
     serial: &[u8; 16],

@@ -52,7 +52,7 @@ fn put_turn(text: &mut [u8], from: usize, rec: &[u8]) -> usize
 }
 
 // The line of any bytes: those that do not read are refused in it.
-pub fn put_line(text: &mut [u8], from: usize, rec: &[u8]) -> usize
+pub(crate) fn put_line(text: &mut [u8], from: usize, rec: &[u8]) -> usize
     requires { ⌜ from + 27 ≤ length (now text) ⌝ }
     ensures { λ r. ⌜ Appends (now (text .entry)) from (lineBy (turnOf (now (rec .entry)))) r (now (text .exit)) × (r ≤ from + 27) ⌝ }
 {

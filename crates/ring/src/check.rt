@@ -11,7 +11,7 @@ ghost use Rattle.ring.specs.Answers.{storing};
 ghost use Rattle.ring.specs.inner.Checks.{ringing, asking};
 
 // Is the memory a ring? (10, 11)
-pub fn is_ring(mem: &[u8]) -> Answer
+pub(crate) fn is_ring(mem: &[u8]) -> Answer
     ensures { λ r. ⌜ answered r ≡ ringing slots (now (mem .entry)) ⌝ }
 {
     if mem.len() != MEMORY {
@@ -24,7 +24,7 @@ pub fn is_ring(mem: &[u8]) -> Answer
 }
 
 // May store k of a record be made? (10, 11, 9, 12)
-pub fn may_store(mem: &[u8], rec: &[u8], k: usize) -> Answer
+pub(crate) fn may_store(mem: &[u8], rec: &[u8], k: usize) -> Answer
     ensures { λ r. ⌜ answered r ≡ storing slots (now (mem .entry)) (now (rec .entry)) k ⌝ }
 {
     let a = is_ring(mem);
@@ -41,7 +41,7 @@ pub fn may_store(mem: &[u8], rec: &[u8], k: usize) -> Answer
 }
 
 // Is there a turn i? (10, 11, 12)
-pub fn may_ask(mem: &[u8], i: usize) -> Answer
+pub(crate) fn may_ask(mem: &[u8], i: usize) -> Answer
     ensures { λ r. ⌜ answered r ≡ asking slots (now (mem .entry)) i ⌝ }
 {
     let a = is_ring(mem);

@@ -18,14 +18,14 @@ const ROUND: u8 = SLOTS as u8;
 pub const HEADS: u8 = (2 * SLOTS) as u8;
 
 // How many turns a ring with head h holds.
-pub fn held_by(h: u8) -> usize
+pub(crate) fn held_by(h: u8) -> usize
     ensures { λ r. ⌜ r ≡ held slots h ⌝ }
 {
     if h < ROUND { h as usize } else { MOST }
 }
 
 // The slot of turn i.
-pub fn slot_of(h: u8, i: usize) -> usize
+pub(crate) fn slot_of(h: u8, i: usize) -> usize
     requires { ⌜ h < 2 * slots ⌝ }
     requires { ⌜ i < held slots h ⌝ }
     ensures { λ r. ⌜ r ≡ slotOf slots h i ⌝ }
@@ -38,14 +38,14 @@ pub fn slot_of(h: u8, i: usize) -> usize
 }
 
 // The slot that is written next.
-pub fn next_slot(h: u8) -> usize
+pub(crate) fn next_slot(h: u8) -> usize
     ensures { λ r. ⌜ r ≡ nextSlot slots h ⌝ }
 {
     h as usize % SLOTS
 }
 
 // The head once that slot is full.
-pub fn next_head(h: u8) -> u8
+pub(crate) fn next_head(h: u8) -> u8
     requires { ⌜ h < 2 * slots ⌝ }
     ensures { λ r. ⌜ r ≡ nextHead slots h ⌝ }
 {
@@ -57,7 +57,7 @@ pub fn next_head(h: u8) -> u8
 }
 
 // Where slot n begins.
-pub fn slot_start(n: usize) -> usize
+pub(crate) fn slot_start(n: usize) -> usize
     requires { ⌜ n < slots ⌝ }
     ensures { λ r. ⌜ r ≡ slotStart n ⌝ }
 {

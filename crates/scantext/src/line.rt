@@ -24,7 +24,13 @@ fn put_field(text: &mut [u8], from: usize, label: &[u8], n: u64) -> usize
 }
 
 // The line of a sample, of its three words.
-pub fn put_sample(text: &mut [u8], from: usize, angle: u16, distance: u16, mark: u16) -> usize
+pub(crate) fn put_sample(
+    text: &mut [u8],
+    from: usize,
+    angle: u16,
+    distance: u16,
+    mark: u16,
+) -> usize
     requires { ⌜ from + 27 ≤ length (now text) ⌝ }
     ensures { λ r. ⌜ Appends (now (text .entry)) from (sampleLine (mark % 2) (mark / 2) angle distance) r (now (text .exit)) × (r ≤ from + 27) ⌝ }
 {
@@ -76,7 +82,13 @@ fn reply_bytes(phase: Phase) -> usize
 }
 
 // The line of what ended a call that began in a phase, if it has one.
-pub fn put_stop(text: &mut [u8], from: usize, phase: Phase, stop: Stop, reply: &[u8]) -> usize
+pub(crate) fn put_stop(
+    text: &mut [u8],
+    from: usize,
+    phase: Phase,
+    stop: Stop,
+    reply: &[u8],
+) -> usize
     requires { ⌜ length (now reply) ≡ 20 ⌝ }
     requires { ⌜ from + 47 ≤ length (now text) ⌝ }
     ensures { λ r. ⌜ Appends (now (text .entry)) from (stopLine phase stop (now (reply .entry))) r (now (text .exit)) × (r ≤ from + 47) ⌝ }
@@ -94,7 +106,7 @@ pub fn put_stop(text: &mut [u8], from: usize, phase: Phase, stop: Stop, reply: &
 }
 
 // The last line.
-pub fn put_end(text: &mut [u8], taken: u64, skipped: u32, held: u8) -> usize
+pub(crate) fn put_end(text: &mut [u8], taken: u64, skipped: u32, held: u8) -> usize
     requires { ⌜ 59 ≤ length (now text) ⌝ }
     ensures { λ r. ⌜ Appends (now (text .entry)) 0 (endLine taken skipped held) r (now (text .exit)) × (r ≤ 59) ⌝ }
 {

@@ -6,7 +6,7 @@ ghost use Rattle.text.specs.Appends.{Appends};
 ghost use Rattle.scantext.specs.Lines.{rowLines};
 
 // Each three words are a sample's.
-pub fn put_row(text: &mut [u8], words: &[u16]) -> usize
+pub(crate) fn put_row(text: &mut [u8], words: &[u16]) -> usize
     requires { ⌜ 9 * length (now words) ≤ length (now text) ⌝ }
     ensures { λ r. ⌜ Appends (now (text .entry)) 0 (rowLines (now (words .entry))) r (now (text .exit)) × (r ≤ 9 * length (now (words .entry))) ⌝ }
 {

@@ -5,7 +5,7 @@ use wire::request::Request;
 ghost use mathlib.Core.Path.{_≡_};
 ghost use Rattle.session.specs.Session.{ofTheSix, waitAfter, awaitedAfter, heldBack};
 
-pub fn of_the_six(kind: Kind) -> bool
+pub(crate) fn of_the_six(kind: Kind) -> bool
     ensures { λ r. ⌜ r ≡ ofTheSix kind ⌝ }
 {
     match kind {
@@ -19,7 +19,7 @@ pub fn of_the_six(kind: Kind) -> bool
     }
 }
 
-pub fn wait_after(kind: Kind) -> u64
+pub(crate) fn wait_after(kind: Kind) -> u64
     ensures { λ r. ⌜ r ≡ waitAfter kind ⌝ }
 {
     match kind {
@@ -33,7 +33,7 @@ pub fn wait_after(kind: Kind) -> u64
     }
 }
 
-pub fn awaited_after(kind: Kind) -> Awaited
+pub(crate) fn awaited_after(kind: Kind) -> Awaited
     ensures { λ r. ⌜ r ≡ awaitedAfter kind ⌝ }
 {
     match kind {
@@ -48,7 +48,7 @@ pub fn awaited_after(kind: Kind) -> Awaited
 }
 
 // A single reply is awaited and the request is not STOP or RESET.
-pub fn held_back(awaited: Awaited, kind: Kind) -> bool
+pub(crate) fn held_back(awaited: Awaited, kind: Kind) -> bool
     ensures { λ r. ⌜ r ≡ heldBack awaited kind ⌝ }
 {
     if let Awaited::Nothing = awaited {

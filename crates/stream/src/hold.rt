@@ -8,14 +8,14 @@ ghost use lib.ListN.{length, take, replicate};
 ghost use Rattle.stream.specs.State.{twenty, capped};
 ghost use Rattle.stream.specs.inner.Hold.{holding, Copied};
 
-pub fn least(a: usize, b: usize) -> usize
+pub(crate) fn least(a: usize, b: usize) -> usize
     ensures { λ r. ⌜ r ≡ min a b ⌝ }
 {
     if a < b { a } else { b }
 }
 
 // n more skipped bytes; the count stays at its largest value.
-pub fn more_skipped(a: u32, n: usize) -> u32
+pub(crate) fn more_skipped(a: u32, n: usize) -> u32
     ensures { λ r. ⌜ r ≡ capped (a + n) ⌝ }
 {
     let most: u32 = 4294967295;
@@ -35,7 +35,7 @@ fn copy(into: &mut [u8], at: usize, from: &[u8], n: usize)
 }
 
 // The first h bytes held and the first m of the input, in an array of zeros.
-pub fn join(joint: &mut [u8], held: &[u8], h: usize, input: &[u8], m: usize)
+pub(crate) fn join(joint: &mut [u8], held: &[u8], h: usize, input: &[u8], m: usize)
     requires { ⌜ (now joint ≡ replicate 20 0) × (length (now held) ≡ 20) ⌝ }
     requires { ⌜ (h + m ≤ 20) × (m ≤ length (now input)) ⌝ }
     ensures { λ _. ⌜ now (joint .exit) ≡ twenty (take h (now (held .entry)) ++ take m (now (input .entry))) ⌝ }
@@ -52,7 +52,7 @@ fn count(n: usize) -> u8
 }
 
 // A reader that holds the bytes of a part.
-pub fn hold(phase: Phase, part: &[u8], skipped: u32) -> Reader
+pub(crate) fn hold(phase: Phase, part: &[u8], skipped: u32) -> Reader
     requires { ⌜ length (now part) ≤ 20 ⌝ }
     ensures { λ r. ⌜ r ≡ holding phase (now (part .entry)) skipped ⌝ }
 {
@@ -67,7 +67,7 @@ pub fn hold(phase: Phase, part: &[u8], skipped: u32) -> Reader
 }
 
 // A reader that holds none.
-pub fn empty(phase: Phase, skipped: u32) -> Reader
+pub(crate) fn empty(phase: Phase, skipped: u32) -> Reader
     ensures { λ r. ⌜ r ≡ holding phase [] skipped ⌝ }
 {
     Reader {

@@ -28,7 +28,7 @@ fn is_bad(need: usize, joint: &[u8]) -> bool
 }
 
 // `joint` is the h bytes held and those of the input that the reply still needs, or as many as there are.
-pub fn replying(
+pub(crate) fn replying(
     phase: Phase,
     need: usize,
     joint: [u8; 20],
@@ -68,7 +68,7 @@ pub fn replying(
     }
 }
 
-pub fn idle(skipped: u32, input: &[u8]) -> Reading
+pub(crate) fn idle(skipped: u32, input: &[u8]) -> Reading
     ensures { λ r. ⌜ ((held ws : List ℕ) → Comes Idle 0 held (now (input .entry)) skipped ws ws r) ⌝ }
 {
     Reading {

@@ -128,7 +128,7 @@ fn answer(phase: Phase, next: Phase, part: &[u8], place: Match, h: usize, skippe
 }
 
 // `part` is the h bytes held and the first six of the input.
-pub fn seeking(
+pub(crate) fn seeking(
     phase: Phase,
     next: Phase,
     head: &[u8; 7],

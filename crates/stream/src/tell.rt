@@ -34,7 +34,7 @@ fn held_count(n: u8, held: &[u8], wide: usize) -> usize
 }
 
 // The bytes held are forgotten, and count as skipped.
-pub fn turned(reader: Reader, phase: Phase) -> Told
+pub(crate) fn turned(reader: Reader, phase: Phase) -> Told
     ensures { λ r. ⌜ r ≡ taken reader phase ⌝ }
 {
     let before = reader.phase;
