@@ -417,7 +417,10 @@ bk_cell bk_record_cell(const uint8_t *rec, size_t rec_len, size_t c);
 /* Writes the serial of a record, BK_SERIAL_BYTES. Refuses BK_NOT_A_RECORD, then BK_OUTPUT_SHORT. */
 bk_written bk_record_serial(const uint8_t *rec, size_t rec_len, uint8_t *out, size_t out_len);
 
-/* ---- the ring, a memory of BK_RING_BYTES */
+/* ---- the ring, a memory of BK_RING_BYTES
+ *
+ * One writer at a time: what is promised of a ring is promised of one history of stores. While one caller adds a record, no other may store into the same
+ * memory; reading is free. */
 
 typedef struct {
     size_t turns;

@@ -5,3 +5,5 @@ mod turn;
 
 pub use image::ROOM;
 pub use image::list;
+pub use line::LINE_ROOM;
+pub use line::list_turn;

@@ -4,6 +4,8 @@ use crate::turn::filled_of;
 use crate::turn::nearest_of;
 use crate::turn::number_of;
 use paper::refusal::Refusal;
+use paper::refusal::Written;
+use paper::write::write;
 use text::put_byte;
 use text::put_number;
 use text::put_refused;
@@ -16,6 +18,7 @@ ghost use Rattle.record.specs.Record.{reads, held, turnOf};
 ghost use Rattle.text.specs.Decimal.{decimal};
 ghost use Rattle.text.specs.Refused.{space};
 ghost use Rattle.listing.specs.Text.{distance, turnLine, lineBy};
+ghost use Rattle.listing.specs.Promises.{LineGiven};
 ghost use Rattle.text.specs.Appends.{Appends};
 
 // A number and the space behind it.
@@ -60,4 +63,16 @@ pub(crate) fn put_line(text: &mut [u8], from: usize, rec: &[u8]) -> usize
         return put_turn(text, from, rec);
     }
     put_refused(text, from, Refusal::NotARecord.number())
+}
+
+// A buffer of so many bytes is never too short for a line.
+pub const LINE_ROOM: usize = 27;
+
+// Writes the line of one record at the front of the output: the bytes written, or OutputShort and the output as it was.
+pub fn list_turn(rec: &[u8], out: &mut [u8]) -> Written
+    ensures { λ r. ⌜ LineGiven (now (rec .entry)) (now (out .entry)) r (now (out .exit)) ⌝ }
+{
+    let mut text = [0u8; LINE_ROOM];
+    let n = put_line(&mut text, 0, rec);
+    write(&text[..n], out)
 }

@@ -1,7 +1,6 @@
 -- A store of a ring as one byte and its place: `made-done` and `made-refused`; and what it leaves in the memory: `stored-is`, `stores-on`.
 use Prim.Native.Nat.{ℕ, _+_, _*_, _%_, _≤_, _<_}
 use mathlib.Core.Path.{_≡_, refl, sym, ap, _∙_}
-use mathlib.Core.Bool.{true, false}
 use mathlib.Core.Logic.{⊎-elim}
 use mathlib.Core.List.{List}
 use native.Mathlib.Omega.{arith}
@@ -84,6 +83,3 @@ stores-on was rec k e f = rw add-one (rw e at f)
 -- the last store
 pub stores-last : (was rec : List ℕ) (k : ℕ) {mid is : List ℕ} → k ≡ 754 → mid ≡ stores slots was rec k → is ≡ store slots mid rec 754 → is ≡ stores slots was rec 755
 stores-last was rec k e f g = stores-on was rec 754 (rw e at f) g
-
-pub never : {A : Type 0} → false ≡ true → A
-never e = let z : _≡_ {A = ℕ} 0 1 = cc in absurd (omega arith)

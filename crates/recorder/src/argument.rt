@@ -1,4 +1,5 @@
 // What the program is started with.
+use text::digit_value;
 ghost use Prim.Native.Nat.{_≤_};
 
 // Whether a serial reads, and its bytes.
@@ -7,37 +8,12 @@ pub struct Serial {
     pub bytes: [u8; 16],
 }
 
-// The value of a hexadecimal digit, and 16 of any other byte.
-fn digit(b: u8) -> u8
-    ensures { λ r. ⌜ r ≤ 16 ⌝ }
-{
-    if b < b'0' {
-        return 16;
-    }
-    if b <= b'9' {
-        return b - b'0';
-    }
-    if b < b'A' {
-        return 16;
-    }
-    if b <= b'F' {
-        return b - b'A' + 10;
-    }
-    if b < b'a' {
-        return 16;
-    }
-    if b <= b'f' {
-        return b - b'a' + 10;
-    }
-    16
-}
-
 // The byte that two digits tell: 256 where they do not.
 fn byte(high: u8, low: u8) -> u16
     ensures { λ r. ⌜ r ≤ 256 ⌝ }
 {
-    let h = digit(high);
-    let l = digit(low);
+    let h = digit_value(high);
+    let l = digit_value(low);
     if h > 15 {
         return 256;
     }

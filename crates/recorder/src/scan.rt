@@ -1,9 +1,11 @@
 // From the bytes on standard input to turns in the ring.
+use crate::file::Kept;
 use crate::file::keep;
+use crate::show;
 use host::Host;
 use host::Told;
 use host::number::next_number;
-use libc::STDIN_FILENO;
+use program::input::receive;
 use record::read::NumberRead;
 use wire::request::Request;
 ghost use Prim.Native.Nat.{_+_, _≤_};
@@ -14,11 +16,12 @@ const PIECE: usize = 4096;
 
 const ROOM: usize = 3072;
 
-// The host, how many turns are kept, and whether the file took them all.
-struct Recording {
+// The host, how many turns are kept, whether the file took them all, and whether each is told.
+pub struct Recording {
     host: Host,
-    kept: u64,
-    sound: bool,
+    pub kept: u64,
+    pub sound: bool,
+    verbose: bool,
 }
 
 // A recording after a call, and how much of what it was handed the call took.
@@ -53,42 +56,46 @@ fn number_in(image: &[u8]) -> u32 {
     }
 }
 
-// What a row led to: a turn that closed goes to the ring. Where the file does not take it, that is said, and nothing more is stored.
-fn noted(
-    fd: i32,
-    kept: u64,
-    host: Host,
-    answer: Told,
-    image: &mut [u8],
-    rec: &[u8; 754],
-) -> Recording {
-    match answer {
-        Told::Taken => Recording {
+// The same recording with one turn more, whose record this is, where it was kept.
+fn counted(r: Recording, k: Kept, rec: &[u8; 754]) -> Recording {
+    let host = r.host;
+    if k.kept {
+        if k.synced {
+            show::turn(r.verbose, rec);
+        }
+        return Recording {
             host,
-            kept,
-            sound: true,
-        },
+            kept: std::num::wrapping_add_u64(r.kept, 1),
+            sound: k.synced,
+            verbose: r.verbose,
+        };
+    }
+    Recording {
+        host,
+        kept: r.kept,
+        sound: false,
+        verbose: r.verbose,
+    }
+}
+
+// What a row led to: a turn that closed goes to the ring. Where the file does not take it, nothing more is stored.
+fn noted(fd: i32, r: Recording, answer: Told, image: &mut [u8], rec: &[u8; 754]) -> Recording {
+    match answer {
+        Told::Taken => r,
         Told::Closed(_) => {
             let bytes: &[u8] = rec;
-            if keep(fd, image, bytes) {
-                return Recording {
-                    host,
-                    kept: std::num::wrapping_add_u64(kept, 1),
-                    sound: true,
-                };
-            }
-            os::fail(b"recorder: the ring's file");
+            let k = keep(fd, image, bytes);
+            counted(r, k, rec)
+        }
+        Told::Refused(_) => {
+            let host = r.host;
             Recording {
                 host,
-                kept,
+                kept: r.kept,
                 sound: false,
+                verbose: r.verbose,
             }
         }
-        Told::Refused(_) => Recording {
-            host,
-            kept,
-            sound: false,
-        },
     }
 }
 
@@ -125,7 +132,13 @@ fn gather(
     let taken = least(t.words, row.len() - at);
     let after = t.host;
     let answer = t.answer;
-    let recording = noted(fd, r.kept, after, answer, image, &rec);
+    let begun = Recording {
+        host: after,
+        kept: r.kept,
+        sound: true,
+        verbose: r.verbose,
+    };
+    let recording = noted(fd, begun, answer, image, &rec);
     Step { recording, taken }
 }
 
@@ -177,6 +190,7 @@ fn hear(
         host: after,
         kept: r.kept,
         sound: true,
+        verbose: r.verbose,
     };
     let recording = take_row(fd, begun, &words[..n], image, filling, closed);
     Step { recording, taken }
@@ -208,18 +222,6 @@ fn take_piece(
     next
 }
 
-// Fills a piece from standard input: how many bytes there were, none where the input ends or cannot be read, which is said.
-fn receive(piece: &mut [u8]) -> usize
-    ensures { λ r. ⌜ Counts r (now (piece .exit)) ⌝ }
-{
-    let got = libc::read(STDIN_FILENO, piece);
-    if got < 0 {
-        os::fail(b"recorder: standard input");
-        return 0;
-    }
-    io::count(got, piece)
-}
-
 // The next piece of the input.
 fn take_next(
     fd: i32,
@@ -230,7 +232,7 @@ fn take_next(
     filling: &mut [u16; 360],
     closed: &mut [u16; 360],
 ) -> Step {
-    let taken = receive(piece);
+    let taken = receive(b"recorder", piece);
     let recording = take_piece(fd, r, &piece[..taken], words, image, filling, closed);
     Step { recording, taken }
 }
@@ -245,25 +247,25 @@ fn take_all(
     image: &mut [u8],
     filling: &mut [u16; 360],
     closed: &mut [u16; 360],
-) -> u64 {
+) -> Recording {
     let mut next = r;
     let mut turns = u64::MAX;
     while turns > 0 {
         let s = take_next(fd, next, piece, words, image, filling, closed);
         next = s.recording;
         if s.taken == 0 {
-            return next.kept;
+            return next;
         }
         if !next.sound {
-            return next.kept;
+            return next;
         }
         turns -= 1;
     }
-    next.kept
+    next
 }
 
-// Keeps every closed turn of the scan on standard input, and answers how many.
-pub fn keep_all(fd: i32, image: &mut [u8], serial: [u8; 16]) -> u64 {
+// Keeps every closed turn of the scan on standard input, and answers how many. Where the file does not take one, the system's number of the error is why.
+pub fn keep_all(fd: i32, image: &mut [u8], serial: [u8; 16], verbose: bool) -> Recording {
     let mut piece = [0u8; PIECE];
     let mut words = [0u16; ROOM];
     let mut filling = [0u16; 360];
@@ -273,6 +275,7 @@ pub fn keep_all(fd: i32, image: &mut [u8], serial: [u8; 16]) -> u64 {
         host,
         kept: 0,
         sound: true,
+        verbose,
     };
     take_all(
         fd,

@@ -11,7 +11,8 @@ pub enum Stored {
     Refused(Refusal),
 }
 
-fn head(mem: &[u8]) -> u8
+// The head of a ring.
+pub fn head(mem: &[u8]) -> u8
     ensures { λ r. ⌜ r ≡ headOf (now (mem .entry)) ⌝ }
 {
     if mem.len() == 0 {

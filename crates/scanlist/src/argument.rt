@@ -1,34 +1,10 @@
 // What the program is started with.
+use text::digit_value;
 ghost use Prim.Native.Nat.{_≤_};
 
 pub enum Code {
     Byte(u8),
     Nothing,
-}
-
-// The value of a hexadecimal digit, and 16 of any other byte.
-fn digit(b: u8) -> u8
-    ensures { λ r. ⌜ r ≤ 16 ⌝ }
-{
-    if b < b'0' {
-        return 16;
-    }
-    if b <= b'9' {
-        return b - b'0';
-    }
-    if b < b'A' {
-        return 16;
-    }
-    if b <= b'F' {
-        return b - b'A' + 10;
-    }
-    if b < b'a' {
-        return 16;
-    }
-    if b <= b'f' {
-        return b - b'a' + 10;
-    }
-    16
 }
 
 // Argument i as two hexadecimal digits.
@@ -38,8 +14,8 @@ pub fn code_of(i: usize) -> Code {
     if n != 2 {
         return Code::Nothing;
     }
-    let high = digit(text[0]);
-    let low = digit(text[1]);
+    let high = digit_value(text[0]);
+    let low = digit_value(text[1]);
     if high > 15 {
         return Code::Nothing;
     }
@@ -74,7 +50,7 @@ fn decimal(text: &[u8]) -> usize {
     let mut value: usize = 0;
     let mut i: usize = 0;
     while i < text.len() {
-        let d = digit(text[i]);
+        let d = digit_value(text[i]);
         if d > 9 {
             return 0;
         }

@@ -6,12 +6,20 @@ mod show;
 use argument::Code;
 use libc::STDERR_FILENO;
 use libc::STDIN_FILENO;
+use libc::STDOUT_FILENO;
 use paper::refusal::Answer;
+use program::input::is_readable;
+use program::input::read_once;
+use program::output::failed;
+use program::word::Word;
+use program::word::print_version;
+use program::word::said;
 use stream::Reader;
 use wire::request::Request;
+ghost use mathlib.Core.Path.{_≡_};
+ghost use mathlib.Core.Bool.{true};
 ghost use Prim.Native.Nat.{_≤_};
 ghost use lib.ListN.{length};
-ghost use Rattle.io.specs.Counts.{Counts};
 ghost use Rattle.scantext.specs.Lines.{roomFor};
 ghost use Rattle.scantext.specs.Listing.{Lists};
 
@@ -27,38 +35,17 @@ const MOST_ROOM: usize = 24576;
 // The text of a call with so many words.
 const TEXT: usize = scantext::WORD_ROOM * MOST_ROOM + scantext::STOP_ROOM;
 
-// One read of standard input: how many bytes came, none where the input ends or cannot be read, which is said.
-fn receive(part: &mut [u8]) -> usize
-    ensures { λ r. ⌜ r ≤ length (now (part .exit)) ⌝ }
-{
-    let got = libc::read(STDIN_FILENO, part);
-    if got < 0 {
-        os::fail(b"scanlist: standard input");
-        return 0;
-    }
-    io::count(got, part)
+// The reader after a piece, and whether all that it gave could be printed.
+struct Listing {
+    reader: Reader,
+    shown: bool,
 }
 
-// Fills a piece from standard input: how many bytes there were, fewer than its length where the input ends.
-fn fill(piece: &mut [u8]) -> usize
-    ensures { λ r. ⌜ Counts r (now (piece .exit)) ⌝ }
-{
-    let mut n: usize = 0;
-    while n < piece.len() {
-        let got = receive(&mut piece[n..]);
-        if got == 0 {
-            return n;
-        }
-        n += got;
-    }
-    n
-}
-
-// Reads one piece to its end, and prints what is given.
-fn list_piece(reader: Reader, input: &[u8], words: &mut [u16], text: &mut [u8]) -> Reader
+// Reads one piece to its end, and prints what is given; a line that cannot be printed ends it.
+fn list_piece(reader: Reader, input: &[u8], words: &mut [u16], text: &mut [u8]) -> Listing
     requires { ⌜ 3 ≤ length (now words) ⌝ }
     requires { ⌜ roomFor (length (now words)) ≤ length (now text) ⌝ }
-    ensures { λ r. ⌜ Lists reader (now (input .entry)) r ⌝ }
+    ensures { λ r. ⌜ (r .shown ≡ true → Lists reader (now (input .entry)) (r .reader)) ⌝ }
 {
     let mut next = reader;
     let mut at: usize = 0;
@@ -68,20 +55,31 @@ fn list_piece(reader: Reader, input: &[u8], words: &mut [u16], text: &mut [u8]) 
         let n = r.words;
         let stop = r.stop;
         let reply = r.reply;
-        show::call(phase, &words[..n], stop, &reply, text);
+        let shown = show::call(phase, &words[..n], stop, &reply, text);
         next = r.reader;
+        if !shown {
+            return Listing {
+                reader: next,
+                shown: false,
+            };
+        }
         if r.taken == 0 {
-            return next;
+            return Listing {
+                reader: next,
+                shown: true,
+            };
         }
         at += r.taken;
     }
-    next
+    Listing {
+        reader: next,
+        shown: true,
+    }
 }
 
-// Reads the whole input, piece by piece, and ends with the last line. A proved loop has to end, and nothing says that an input does: so it
+// Reads the whole input, each piece as it comes, and ends with the last line, or without it where a read fails. A proved loop has to end, and nothing says that an input does: so it
 // counts down from more bytes than there ever are.
 fn list(reader: Reader, piece: &mut [u8], words: &mut [u16], text: &mut [u8])
-    requires { ⌜ 1 ≤ length (now piece) ⌝ }
     requires { ⌜ length (now piece) ≤ 65536 ⌝ }
     requires { ⌜ 3 ≤ length (now words) ⌝ }
     requires { ⌜ roomFor (length (now words)) ≤ length (now text) ⌝ }
@@ -89,13 +87,22 @@ fn list(reader: Reader, piece: &mut [u8], words: &mut [u16], text: &mut [u8])
     let mut next = reader;
     let mut left = u64::MAX;
     while left >= 65536 {
-        let n = fill(piece);
-        next = list_piece(next, &piece[..n], words, text);
-        left -= n as u64;
-        if n < piece.len() {
+        let got = read_once(STDIN_FILENO, piece);
+        let n = got.bytes;
+        if !got.sound {
+            failed(b"scanlist", b"standard input");
+            return;
+        }
+        if n == 0 {
             show::end(u64::MAX - left, next.skipped, next.n);
             return;
         }
+        let l = list_piece(next, &piece[..n], words, text);
+        next = l.reader;
+        if !l.shown {
+            return;
+        }
+        left -= n as u64;
     }
 }
 
@@ -133,44 +140,52 @@ fn run(code: u8, cut: usize, room: usize)
     list_by(reader, &mut input, cut, &mut words, room, &mut text);
 }
 
-fn usage() {
+fn usage(fd: i32) -> bool {
     io::write_all(
-        STDERR_FILENO,
-        b"scanlist CODE [CUT [ROOM]]: a code of two hex digits, 1 to 65536 bytes, 3 to 24576 words\n",
-    );
+        fd,
+        b"usage: scanlist CODE [CUT [ROOM]]: lists what the reader gives of the response bytes on standard input to request CODE (two hex digits), in pieces of 1 to 65536 bytes with room for 3 to 24576 words\n",
+    )
 }
 
-// Whether standard input can be read at all; where not, why is said.
-fn is_readable() -> bool {
-    let mut none = [0u8; 1];
-    if libc::read(STDIN_FILENO, &mut none[..0]) < 0 {
-        os::fail(b"scanlist: standard input");
-        return false;
-    }
-    true
-}
-
-fn main() {
+// Lists the input as the words ask.
+fn list_asked() {
     let code = argument::code_of(1);
     let cut = argument::number(2, 1, MOST_CUT, CUT);
     let room = argument::number(3, 3, MOST_ROOM, ROOM);
     let Code::Byte(b) = code else {
-        usage();
+        usage(STDERR_FILENO);
         return;
     };
     if cut == 0 {
-        usage();
+        usage(STDERR_FILENO);
         return;
     }
     if room < 3 {
-        usage();
+        usage(STDERR_FILENO);
         return;
     }
     if os::arg_count() > 4 {
-        usage();
+        usage(STDERR_FILENO);
         return;
     }
-    if is_readable() {
+    if is_readable(b"scanlist") {
         run(b, cut, room);
+    }
+}
+
+fn main() {
+    match said(1) {
+        Word::Help => {
+            if !usage(STDOUT_FILENO) {
+                failed(b"scanlist", b"standard output");
+            }
+        }
+        Word::Version => {
+            print_version(b"scanlist");
+        }
+        Word::Plain => list_asked(),
+        _ => {
+            usage(STDERR_FILENO);
+        }
     }
 }

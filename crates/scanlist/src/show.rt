@@ -1,6 +1,6 @@
-// Printing what a call gives, each text composed in a buffer that has room for it and written whole.
-use libc::STDOUT_FILENO;
+// Printing what a call gives, each text composed in a buffer that has room for it and written whole. Where it cannot be written, that is said.
 use paper::refusal::Written;
+use program::output::print;
 use stream::Phase;
 use stream::Stop;
 ghost use mathlib.Core.Path.{_≡_};
@@ -23,11 +23,11 @@ fn call_text(phase: Phase, words: &[u16], stop: Stop, reply: &[u8; 20], text: &m
 }
 
 // The lines of a call.
-pub fn call(phase: Phase, words: &[u16], stop: Stop, reply: &[u8; 20], text: &mut [u8])
+pub fn call(phase: Phase, words: &[u16], stop: Stop, reply: &[u8; 20], text: &mut [u8]) -> bool
     requires { ⌜ roomFor (length (now words)) ≤ length (now text) ⌝ }
 {
     let n = call_text(phase, words, stop, reply, text);
-    io::write_all(STDOUT_FILENO, &text[..n]);
+    print(b"scanlist", &text[..n])
 }
 
 fn end_text(taken: u64, skipped: u32, held: u8, text: &mut [u8]) -> usize
@@ -45,7 +45,7 @@ fn end_text(taken: u64, skipped: u32, held: u8, text: &mut [u8]) -> usize
 pub fn end(taken: u64, skipped: u32, held: u8) {
     let mut text = [0u8; 59];
     let n = end_text(taken, skipped, held, &mut text);
-    io::write_all(STDOUT_FILENO, &text[..n]);
+    print(b"scanlist", &text[..n]);
 }
 
 fn refused_text(number: u8, text: &mut [u8]) -> usize
@@ -62,5 +62,5 @@ fn refused_text(number: u8, text: &mut [u8]) -> usize
 pub fn refused(number: u8) {
     let mut text = [0u8; 12];
     let n = refused_text(number, &mut text);
-    io::write_all(STDOUT_FILENO, &text[..n]);
+    print(b"scanlist", &text[..n]);
 }

@@ -3,4 +3,7 @@ pub mod Hex
 pub mod Appends
 pub mod Puts
 pub mod Refused
+pub mod Shown
+pub mod Never
+pub mod Parts
 pub mod Determined

@@ -3,4 +3,5 @@ pub mod Decimal
 pub mod Hex
 pub mod Refused
 pub mod Appends
+pub mod Parts
 pub mod Promises

@@ -1,5 +1,10 @@
 // Writing pieces of text behind each other in a lent buffer: bytes, a number in decimal, a byte in hex, a refusal's line. Each answers where the
 // next piece goes; a piece that has no room is not written, and then that is where it began.
+mod part;
+
+pub use part::digit_value;
+pub use part::front;
+pub use part::stands;
 ghost use Prim.Native.Nat.{_+_, _≤_, _<_};
 ghost use mathlib.Core.Path.{_≡_};
 ghost use mathlib.Core.List.{[], _∷_};

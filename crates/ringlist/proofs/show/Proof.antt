@@ -1,6 +1,6 @@
 -- `ringlist::show` meets its contract.
-use Rattle.ring.specs.Ring.{slots}
-use Rattle.listing.proofs.Listed.{listed, never-short}
+use native.Mathlib.Omega.{arith}
+use Rattle.text.proofs.Shown.{line-shown, line-never-short}
 use borrow.Author.Needs.{needs}
 use Rattle.ringlist.proofs.show.Statement.{statement}
 use Rattle.ringlist.proofs.show.Tie as tie
@@ -19,14 +19,16 @@ same-length c = search needs
 
 returns : tie.Need-returns
 returns c = let list = c .before .before .before .before .before in
-    listed slots _ _ _ _ (list .before .before .before .before .pre) (list .list .ensures) _ (c .before .n .given .1)
+    let given = list .list .ensures in
+    line-shown _ (omega (arith, given .short, list .before .before .before .before .pre)) (given .text) _ (c .before .n .given .1)
 
 same-length-2 : tie.Need-same-length-2
 same-length-2 c = search needs
 
 returns-2 : tie.Need-returns-2
 returns-2 c = let list = c .before .before .before .before in
-    absurd (never-short slots _ _ _ _ (list .before .before .before .before .pre) (list .list .ensures) (c .enum-told .given .1))
+    let given = list .list .ensures in
+    absurd (line-never-short _ (omega (arith, given .short, list .before .before .before .before .pre)) (given .text) (c .enum-told .given .1))
 
 pub show-spec : {M : Type 1} → statement M
 show-spec =

@@ -23,7 +23,7 @@ list-requires c κs = let start = c .before .before .before .before .before .bef
     let pre = start .pre in
     let piece = length-take-le (start .args .cut) (start .args .buffer .now) (pre .1 .0) in
     let row = length-take-le (start .args .room) (start .args .words .now) (pre .1 .1 .0 .1) in
-    (omega (arith, piece, pre .0 .0), (omega (arith, piece, pre .0 .1), (omega (arith, row, pre .1 .1 .0 .0), omega (arith, row, pre .1 .1 .1))))
+    (omega (arith, piece, pre .0 .1), (omega (arith, row, pre .1 .1 .0 .0), omega (arith, row, pre .1 .1 .1)))
 
 same-length : tie.Need-same-length
 same-length c = search needs

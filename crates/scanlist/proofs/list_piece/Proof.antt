@@ -5,13 +5,14 @@ use mathlib.Core.List.{List}
 use native.Mathlib.Omega.{arith}
 use lib.ListN.{length}
 use lib.Seq.{length-take-le}
-use borrow.Author.Needs.{needs}
 use Rattle.paper.proofs.Writing.{length-over}
 use Rattle.stream.specs.Promises.{Reads}
 use Rattle.stream.specs.declared.Reader.{Reader}
 use Rattle.stream.specs.declared.Reading.{Reading}
 use Rattle.stream.proofs.GoesOn.{words-within}
 use Rattle.scantext.proofs.Going.{Going, going-start, going-next, going-on, going-end}
+use Rattle.text.proofs.Never.{never}
+use borrow.Author.Needs.{needs}
 use Rattle.scanlist.proofs.list_piece.Statement.{statement}
 use Rattle.scanlist.proofs.list_piece.Tie as tie
 
@@ -60,21 +61,7 @@ same-length-2 : tie.Need-same-length-2 Inv-loop μ-loop
 same-length-2 c = search needs
 
 returns : tie.Need-returns Inv-loop μ-loop
-returns c = let loop = c .before .before .before .before .before .before .before .before .before .before .before .before .before .before .before .before in
-    let more = going-on (loop .loop .inv .0) (c .before .before .before .before .before .before .before .before .before .before .before .before .read .ensures) (c .before .before .before .before .before .before .before .before .before .before .before .before .before .before .before .loop-test .taken) (omega (arith, loop .loop .inv .1, c .before .before .before .before .before .before .before .before .before .before .before .before .before .before .before .before .before .before .before .before .pre .0)) in
-    absurd (omega (arith, more, c .if1 .taken))
-
-add-at : tie.Need-add-at Inv-loop μ-loop
-add-at c = let next = going-next (c .before .before .before .before .before .before .before .before .before .before .before .before .before .before .before .before .before .loop .inv .0) (c .before .before .before .before .before .before .before .before .before .before .before .before .before .read .ensures) in
-    omega (arith, next .within, c .before .before .before .before .before .before .before .before .before .before .before .before .before .before .before .before .before .before .before .before .before .good .1 .0 .0)
-
-loop-less : tie.Need-loop-less Inv-loop μ-loop
-loop-less c = search needs
-
-loop-again : tie.Need-loop-again Inv-loop μ-loop
-loop-again c = let loop = c .before .before .before .before .before .before .before .before .before .before .before .before .before .before .before .before .before in
-    let r = c .before .before .before .before .before .before .before .before .before .before .before .before .before .read .ensures in
-    (going-next (loop .loop .inv .0) r, row-size r ∙ loop .loop .inv .1, omega (arith, loop .loop .inv .2))
+returns c = λ e. never e
 
 same-length-3 : tie.Need-same-length-3 Inv-loop μ-loop
 same-length-3 c = search needs
@@ -83,7 +70,30 @@ same-length-4 : tie.Need-same-length-4 Inv-loop μ-loop
 same-length-4 c = search needs
 
 returns-2 : tie.Need-returns-2 Inv-loop μ-loop
-returns-2 c = going-end (c .before .loop .inv .0) (c .loop-test .left)
+returns-2 c = λ e. let loop = c .before .before .before .before .before .before .before .before .before .before .before .before .before .before .before .before .before .loop .inv in
+    let more = going-on (loop .0) (c .before .before .before .before .before .before .before .before .before .before .before .before .before .read .ensures) (c .before .before .before .before .before .before .before .before .before .before .before .before .before .before .before .before .loop-test .taken) (omega (arith, loop .1, c .before .before .before .before .before .before .before .before .before .before .before .before .before .before .before .before .before .before .before .before .before .pre .0)) in
+    absurd (omega (arith, more, c .if2 .taken))
+
+add-at : tie.Need-add-at Inv-loop μ-loop
+add-at c = let next = going-next (c .before .before .before .before .before .before .before .before .before .before .before .before .before .before .before .before .before .before .loop .inv .0) (c .before .before .before .before .before .before .before .before .before .before .before .before .before .before .read .ensures) in
+    omega (arith, next .within, c .before .before .before .before .before .before .before .before .before .before .before .before .before .before .before .before .before .before .before .before .before .before .good .1 .0 .0)
+
+loop-less : tie.Need-loop-less Inv-loop μ-loop
+loop-less c = search needs
+
+loop-again : tie.Need-loop-again Inv-loop μ-loop
+loop-again c = let loop = c .before .before .before .before .before .before .before .before .before .before .before .before .before .before .before .before .before .before .loop .inv in
+    let r = c .before .before .before .before .before .before .before .before .before .before .before .before .before .before .read .ensures in
+    (going-next (loop .0) r, row-size r ∙ loop .1, omega (arith, loop .2))
+
+same-length-5 : tie.Need-same-length-5 Inv-loop μ-loop
+same-length-5 c = search needs
+
+same-length-6 : tie.Need-same-length-6 Inv-loop μ-loop
+same-length-6 c = search needs
+
+returns-3 : tie.Need-returns-3 Inv-loop μ-loop
+returns-3 c = λ e. going-end (c .before .loop .inv .0) (c .loop-test .left)
 
 pub list-piece-spec : {M : Type 1} → statement M
 list-piece-spec =
@@ -102,9 +112,12 @@ list-piece-spec =
     same-length
     same-length-2
     returns
+    same-length-3
+    same-length-4
+    returns-2
     add-at
     loop-less
     loop-again
-    same-length-3
-    same-length-4
-    returns-2)
+    same-length-5
+    same-length-6
+    returns-3)

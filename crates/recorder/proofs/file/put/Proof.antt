@@ -1,5 +1,6 @@
 -- `recorder::file::put` meets its promise.
-use Rattle.recorder.proofs.Made.{stored-is, never}
+use Rattle.recorder.proofs.Made.{stored-is}
+use Rattle.text.proofs.Never.{never}
 use borrow.Author.Needs.{needs}
 use Rattle.recorder.proofs.file.put.Statement.{statement}
 use Rattle.recorder.proofs.file.put.Tie as tie
@@ -10,8 +11,8 @@ make-requires c κs = search needs
 enum-known-s : tie.Need-enum-known-s
 enum-known-s c = search needs
 
-write-at-requires : tie.Need-write-at-requires
-write-at-requires c κs = search needs
+store-requires : tie.Need-store-requires
+store-requires c κs = search needs
 
 enum-told : tie.Need-enum-told
 enum-told c = search needs
@@ -34,7 +35,7 @@ put-spec =
     (tie.spec
     make-requires
     enum-known-s
-    write-at-requires
+    store-requires
     enum-told
     same-length
     returns

@@ -14,11 +14,11 @@ abbrev μ-loop : tie.MeasureT-loop
 loop-holds : tie.Need-loop-holds Inv-loop μ-loop
 loop-holds c = search needs
 
-shared-slice-read-digit : tie.Need-shared-slice-read-digit Inv-loop μ-loop
-shared-slice-read-digit c = search needs
+shared-slice-read-digit-value : tie.Need-shared-slice-read-digit-value Inv-loop μ-loop
+shared-slice-read-digit-value c = search needs
 
-digit-requires : tie.Need-digit-requires Inv-loop μ-loop
-digit-requires c κs = search needs
+digit-value-requires : tie.Need-digit-value-requires Inv-loop μ-loop
+digit-value-requires c κs = search needs
 
 returns : tie.Need-returns Inv-loop μ-loop
 returns c = search needs
@@ -54,8 +54,8 @@ decimal-spec =
     Inv-loop
     μ-loop
     loop-holds
-    shared-slice-read-digit
-    digit-requires
+    shared-slice-read-digit-value
+    digit-value-requires
     returns
     returns-2
     mul-value

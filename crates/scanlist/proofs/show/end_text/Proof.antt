@@ -2,7 +2,7 @@
 use native.Mathlib.Omega.{arith}
 use Rattle.scantext.specs.Lines.{endLine}
 use Rattle.scantext.proofs.Room.{end-short}
-use Rattle.scantext.proofs.Shown.{line-shown, line-never-short}
+use Rattle.text.proofs.Shown.{line-shown, line-never-short}
 use borrow.Author.Needs.{needs}
 use Rattle.scanlist.proofs.show.end_text.Statement.{statement}
 use Rattle.scanlist.proofs.show.end_text.Tie as tie

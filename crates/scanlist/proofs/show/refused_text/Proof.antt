@@ -2,7 +2,7 @@
 use native.Mathlib.Omega.{arith}
 use Rattle.text.specs.Refused.{refusedLine}
 use Rattle.text.proofs.Refused.{refused-short}
-use Rattle.scantext.proofs.Shown.{line-shown, line-never-short}
+use Rattle.text.proofs.Shown.{line-shown, line-never-short}
 use borrow.Author.Needs.{needs}
 use Rattle.scanlist.proofs.show.refused_text.Statement.{statement}
 use Rattle.scanlist.proofs.show.refused_text.Tie as tie

@@ -1,33 +1,27 @@
--- `recorder::file::folder` meets its contract.
-use Prim.Native.Nat.{_≤_}
+-- `ringfile::told::line_end` meets its contract.
+use Prim.Native.Nat.{_-_}
 use lib.ListN.{length}
-use mathlib.Core.Path.{sym}
-use lib.Seq.{length-take-le}
 use borrow.Author.Needs.{needs}
-use native.Mathlib.Omega.{arith}
-use Rattle.recorder.proofs.file.folder.Statement.{statement}
-use Rattle.recorder.proofs.file.folder.Tie as tie
+use Rattle.ringfile.proofs.told.line_end.Statement.{statement}
+use Rattle.ringfile.proofs.told.line_end.Tie as tie
 
 abbrev Inv-loop : tie.InvT-loop
-Inv-loop path i₀ i = i ≤ length path
+Inv-loop text from i₀ i = Unit {0}
 
 abbrev μ-loop : tie.MeasureT-loop
-μ-loop path i₀ i = i
+μ-loop text from i₀ i = length text - i
 
 loop-holds : tie.Need-loop-holds Inv-loop μ-loop
 loop-holds c = search needs
-
-sub-if1 : tie.Need-sub-if1 Inv-loop μ-loop
-sub-if1 c = search needs
 
 shared-slice-read-if1 : tie.Need-shared-slice-read-if1 Inv-loop μ-loop
 shared-slice-read-if1 c = search needs
 
 returns : tie.Need-returns Inv-loop μ-loop
-returns c = (omega arith, sym (length-take-le _ _ (omega arith)))
+returns c = search needs
 
-sub-i : tie.Need-sub-i Inv-loop μ-loop
-sub-i c = search needs
+add-i : tie.Need-add-i Inv-loop μ-loop
+add-i c = search needs
 
 loop-less : tie.Need-loop-less Inv-loop μ-loop
 loop-less c = search needs
@@ -38,17 +32,16 @@ loop-again c = search needs
 returns-2 : tie.Need-returns-2 Inv-loop μ-loop
 returns-2 c = search needs
 
-pub folder-spec : {M : Type 1} → statement M
-folder-spec =
+pub line-end-spec : {M : Type 1} → statement M
+line-end-spec =
     tie.close
     (tie.spec
     Inv-loop
     μ-loop
     loop-holds
-    sub-if1
     shared-slice-read-if1
     returns
-    sub-i
+    add-i
     loop-less
     loop-again
     returns-2)
