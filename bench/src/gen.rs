@@ -2,7 +2,7 @@
 
 use crate::compare::{codec, collector, model, record, ring, session, stream, text, turns};
 use crate::own::ring::RING_BYTES;
-use crate::own::{listing, write_request, Angle, Distance, Record, Request, Sample};
+use crate::own::{listing, write_request, Angle, Distance, Info, Model, Record, Request, Sample};
 
 /// A small generator of random numbers.
 #[derive(Clone, Debug)]
@@ -274,6 +274,28 @@ pub fn stream(rng: &mut Rng) -> Vec<u8> {
         let times = 1 + rng.below(1 + bytes.len() / 20);
         for _ in 0..times {
             damage(rng, &mut bytes);
+        }
+    }
+    bytes
+}
+
+/// A scan of so many closed turns, each with samples of its own, and the sample that closes the last.
+pub fn scan(rng: &mut Rng, turns: usize) -> Vec<u8> {
+    let mut model = Model::new(Info::default());
+    let mut bytes = vec![0; 7];
+    model.request(Request::ForceScan.code(), &mut bytes).expect("a scan");
+    for turn in 0..=turns {
+        let samples = if turn < turns { 1 + rng.below(40) } else { 1 };
+        for n in 0..samples {
+            let sample = Sample {
+                start: n == 0,
+                quality: 9,
+                angle: Angle::from_q6(rng.below(usize::from(Angle::WHOLE_TURN)) as u16),
+                distance: Distance::from_q2(rng.word()),
+            };
+            let mut out = [0; 5];
+            model.sample(&sample, &mut out).expect("a fit sample");
+            bytes.extend(out);
         }
     }
     bytes

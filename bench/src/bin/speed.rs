@@ -1,6 +1,6 @@
 //! Prints how fast the product and the bench's own program are on the same input: in turns, the best of many runs.
 //!
-//! `speed [NAME...]`: where names are given, the rows with one of them in it alone.
+//! `speed [NAME...]`: where names are given, the rows with one of them in it alone. A name in no row is an error.
 
 use bench::gen::{self, Rng};
 use bench::own::{self, Angle, Distance, Record, Request, Turn};
@@ -47,6 +47,9 @@ fn best(mut programs: [&mut dyn FnMut(); 3]) -> [Duration; 3] {
 struct Table {
     /// Rows without one of these in their names are left out; none leaves out nothing.
     asked: Vec<String>,
+    /// Where rows are only named, none is measured.
+    only_named: bool,
+    names: Vec<String>,
     behind: Vec<String>,
 }
 
@@ -61,7 +64,10 @@ impl Table {
         product: &mut dyn FnMut(),
         copy: Option<&mut dyn FnMut()>,
     ) {
-        if !self.asked.is_empty() && !self.asked.iter().any(|asked| name.contains(asked)) {
+        self.names.push(name.to_string());
+        let left_out =
+            !self.asked.is_empty() && !self.asked.iter().any(|asked| name.contains(asked));
+        if self.only_named || left_out {
             return;
         }
         let copied = copy.is_some();
@@ -229,6 +235,10 @@ fn records_and_ring(table: &mut Table) {
     record.write(&mut bytes).expect("it fits");
     let bytes = bytes;
     let mut image = vec![0; own::ring::RING_BYTES];
+    // full, so that each row finds the same ring, whichever others are asked for
+    for _ in 0..64 {
+        own::ring::add_in_order(&mut image, &bytes).expect("it fits");
+    }
     let mut image2 = image.clone();
     let mut add_product = || {
         for _ in 0..TIMES {
@@ -342,25 +352,44 @@ fn peak(which: &str) -> String {
     output.map_or("unknown".into(), |output| String::from_utf8_lossy(&output.stdout).trim().into())
 }
 
+/// Every row of the table.
+fn rows(table: &mut Table) {
+    let clean = stream(&samples(TURN));
+    let mut rng = Rng::new(3);
+    let noise = rng.bytes(NOISE);
+    read(table, "clean", &clean, true, true);
+    read(table, "damaged", &damaged(&clean), true, false);
+    read(table, "noise", &noise, true, false);
+    read(table, "noise, seeking", &noise, false, false);
+    for (turn, room) in [(TURN, 3), (TURN, 192), (TURN, 3_072), (8_000, 3_072)] {
+        gather(table, turn, room);
+    }
+    records_and_ring(table);
+}
+
+/// Those of the names asked for that are in no row.
+fn missing(asked: &[String]) -> Vec<&String> {
+    let mut table = Table { only_named: true, ..Table::default() };
+    rows(&mut table);
+    asked.iter().filter(|&asked| !table.names.iter().any(|name| name.contains(asked))).collect()
+}
+
 fn main() -> ExitCode {
     let words: Vec<String> = env::args().skip(1).collect();
     if let [MEMORY, which] = words.iter().map(String::as_str).collect::<Vec<_>>()[..] {
         memory(which);
         return ExitCode::SUCCESS;
     }
+    let missing = missing(&words);
+    if !missing.is_empty() {
+        for name in missing {
+            eprintln!("speed: no row has {name} in its name");
+        }
+        return ExitCode::from(2);
+    }
     let mut table = Table { asked: words, ..Table::default() };
     println!("{:<34} {:>9} {:>9} {:>7}", "", "own", "product", "ratio");
-    let clean = stream(&samples(TURN));
-    let mut rng = Rng::new(3);
-    let noise = rng.bytes(NOISE);
-    read(&mut table, "clean", &clean, true, true);
-    read(&mut table, "damaged", &damaged(&clean), true, false);
-    read(&mut table, "noise", &noise, true, false);
-    read(&mut table, "noise, seeking", &noise, false, false);
-    for (turn, room) in [(TURN, 3), (TURN, 192), (TURN, 3_072), (8_000, 3_072)] {
-        gather(&mut table, turn, room);
-    }
-    records_and_ring(&mut table);
+    rows(&mut table);
     println!();
     println!(
         "peak memory: own {}, product {}, with neither {}",
@@ -381,4 +410,16 @@ fn main() -> ExitCode {
         }
     }
     ExitCode::SUCCESS
+}
+
+#[cfg(test)]
+mod tests {
+    use super::*;
+
+    #[test]
+    fn names_in_no_row_are_missing() {
+        let words = ["listing", "NOSUCH", "cut 64", "Ring"].map(String::from);
+        assert_eq!(missing(&words), ["NOSUCH", "Ring"]);
+        assert!(missing(&[]).is_empty());
+    }
 }
