@@ -296,7 +296,25 @@ fn end_errors() {
     os::open_read(b"/");
 }
 
-// Says that what a program says may go into its file, or that it would, where that can be said elsewhere.
+// Where nothing is told of this process: whether none of what it says goes into a file, which may be the ring.
+fn is_no_file(program: &[u8], output: bool, errors: bool) -> bool {
+    if errors {
+        end_errors();
+        return false;
+    }
+    if output {
+        tell(
+            STDERR_FILENO,
+            program,
+            b"/proc",
+            b"this program is not shown, so its output may be the ring",
+        );
+        return false;
+    }
+    true
+}
+
+// Whether neither is the program's file; where one is, that is said on the other.
 fn say_output(program: &[u8], path: &[u8], printed: bool, errors: bool) -> bool {
     if errors {
         end_errors();
@@ -318,7 +336,7 @@ fn say_output(program: &[u8], path: &[u8], printed: bool, errors: bool) -> bool 
 }
 
 // Whether the file behind a descriptor is neither standard output nor standard error, where what the program says would be written into it. Where it is one
-// of them, the other is told; where that cannot be found out, it is taken to be each of them that is a file.
+// of them, that is said on the other.
 pub fn is_apart(program: &[u8], path: &[u8], fd: i32) -> bool {
     let output = has_places(STDOUT_FILENO);
     let errors = has_places(STDERR_FILENO);
@@ -328,7 +346,7 @@ pub fn is_apart(program: &[u8], path: &[u8], fd: i32) -> bool {
     let mut real = io::buffer();
     let m = path_of(SELF, n, &mut real);
     if k == 0 {
-        return say_output(program, path, output, errors);
+        return is_no_file(program, output, errors);
     }
     let printed = writes(SELF, OUTPUT, &real[..m], &own[..k]);
     let told = writes(SELF, ERROR, &real[..m], &own[..k]);
