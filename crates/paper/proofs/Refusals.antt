@@ -3,7 +3,7 @@ use Prim.Native.Nat.{ℕ, ◌-◌}
 use mathlib.Core.Path.{◌≡◌, refl, sym, ap, ◌∙◌}
 use mathlib.Core.List.{List, [], ◌∷◌}
 use lib.ListN.{get_or}
-use Rattle.paper.specs.Outcome.{Outcome, gives, refuses}
+use Rattle.paper.specs.Outcome.{Outcome, refuses}
 use Rattle.paper.specs.Refusals.{number_of, answered, written}
 use Rattle.paper.specs.declared.refusal.Refusal.{Refusal}
 use Rattle.paper.specs.declared.refusal.Refusal.TheVariants.{

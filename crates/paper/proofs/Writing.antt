@@ -3,7 +3,7 @@
 use Prim.Native.Nat.{ℕ, suc, ◌+◌, ◌-◌, ◌<◌, ◌≤◌}
 use mathlib.Core.Path.{◌≡◌, refl, sym, ap, ap₂, ◌∙◌}
 use mathlib.Core.Bool.{Bool, true, false}
-use mathlib.Core.List.{List, [], ◌∷◌, ◌++◌, append-nil, append_assoc}
+use mathlib.Core.List.{List, [], ◌++◌, append-nil, append_assoc}
 use native.Mathlib.Omega.{arith}
 use native.Mathlib.Nat.{le_refl}
 use lib.Dec.{ltb}
@@ -12,7 +12,7 @@ use lib.ListN.{length, take, drop, set, get_or, length-append, length-drop, drop
 use lib.Seq.{take-length, take_at, take_all, take-append_seam, drop-append_seam, drop-drop, sets, sets-eq, paste, paste-suc}
 use borrow.Rule.Slice.PartMut.{mid_of, post_of, put_mid}
 use borrow.Author.Tests.{lt-ltb, le-ltb, ltb-true, ltb-false}
-use Rattle.paper.specs.Outcome.{Outcome, gives, refuses, refuse_if, if_given, mapped}
+use Rattle.paper.specs.Outcome.{Outcome, gives, refuses, if_given, mapped}
 use Rattle.paper.specs.Refusals.{number_of, answered, written}
 use Rattle.paper.specs.Words.{bytes_of}
 use Rattle.paper.specs.Writing.{fitting, over, Writes}

@@ -6,7 +6,7 @@ use lib.Bits.{bit_xor}
 use lib.ListN.{length, get_or, drop}
 use lib.Seq.{drop-cons, drop-length}
 use native.Mathlib.Numerals.{add-one}
-use Rattle.paper.specs.Sum.{xor_from, sum_of}
+use Rattle.paper.specs.Sum.{xor_from}
 
 pub xor_step : (xs : List ℕ) (acc i : ℕ) → i < length xs → xor_from (bit_xor acc (get_or xs i 0)) (drop (i + 1) xs) ≡ xor_from acc (drop i xs)
 unfolding xor_from

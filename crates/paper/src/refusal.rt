@@ -2,7 +2,7 @@
 ghost use Rattle.std.specs.Prelude.{◌≡◌};
 ghost use Rattle.paper.specs.Promises.{NumberGiven};
 
-#[derive(Drop)]
+#[derive(Clone, Copy)]
 pub enum Refusal {
     CodeNotPermitted,
     OutputShort,
@@ -20,14 +20,14 @@ pub enum Refusal {
 }
 
 // What is done or refused, with no value to give.
-#[derive(Drop)]
+#[derive(Clone, Copy)]
 pub enum Answer {
     Done,
     Refused(Refusal),
 }
 
 // What a writer answers: how many bytes, or words, it wrote.
-#[derive(Drop)]
+#[derive(Clone, Copy)]
 pub enum Written {
     Bytes(usize),
     Refused(Refusal),

@@ -34,6 +34,7 @@ pub fn bytes32(v: u32) -> [u8; 4]
 }
 
 // At a place of the output; OutputShort where it does not fit there.
+#[tactic(auto, unfolding(crate::specs::Promises::placing, crate::specs::Outcome::refuse_if, crate::specs::Outcome::if_given, crate::specs::Refusals::answered))]
 pub fn put16(out: &mut [u8], place: usize, v: u16) -> Answer
     ensures { WordPut 2 v place out.old result out.new }
 {
@@ -49,6 +50,7 @@ pub fn put16(out: &mut [u8], place: usize, v: u16) -> Answer
     Answer::Done
 }
 
+#[tactic(auto, unfolding(crate::specs::Promises::placing, crate::specs::Outcome::refuse_if, crate::specs::Outcome::if_given, crate::specs::Refusals::answered))]
 pub fn put32(out: &mut [u8], place: usize, v: u32) -> Answer
     ensures { WordPut 4 v place out.old result out.new }
 {
