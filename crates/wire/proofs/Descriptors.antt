@@ -1,14 +1,13 @@
 -- How a descriptor's promises are met: `descriptor_no`, `descriptor_yes`, and which checks decide.
 use Prim.Native.Nat.{ℕ, ◌+◌, ◌*◌, ◌/◌, ◌%◌, ◌<◌, ◌≤◌}
-use mathlib.Core.Path.{◌≡◌, refl, sym, ap, ◌∙◌}
-use mathlib.Core.Bool.{Bool, true, false, not}
+use mathlib.Core.Path.{◌≡◌, sym, ap, ◌∙◌}
+use mathlib.Core.Bool.{true, false, not}
 use mathlib.Core.List.{List, [], ◌∷◌, ◌++◌}
-use native.Mathlib.Omega.{arith}
 use lib.ListN.{length, get_or}
 use borrow.Author.Tests.{lt-ltb, le-ltb, le-leb, lt-leb, eq-eqb, ne_eqb}
-use Rattle.paper.specs.Outcome.{Outcome, gives, refuses, refuse_if}
+use Rattle.paper.specs.Outcome.{gives, refuses}
 use Rattle.paper.specs.Refusals.{number_of}
-use Rattle.paper.specs.Words.{value_of, bytes_of}
+use Rattle.paper.specs.Words.{bytes_of}
 use Rattle.paper.specs.declared.refusal.Refusal.TheVariants.{NotADescriptor}
 use Rattle.paper.proofs.Outcome.{refuse_yes, refuse_no}
 use Rattle.wire.specs.Request.{start_byte}

@@ -4,35 +4,18 @@ use mathlib.Core.Path.{◌≡◌, refl, sym, ap, ◌∙◌}
 use mathlib.Core.Bool.{Bool, true, false, cond, not, ◌&&◌}
 use mathlib.Core.List.{List, [], ◌∷◌, ◌++◌}
 use native.Mathlib.Omega.{arith}
-use lib.Dec.{eqb, ltb, leb}
+use lib.Dec.{eqb}
 use lib.ListN.{length, get_or, drop}
-use borrow.Author.Tests.{lt-ltb, le-ltb, le-leb, lt-leb, eqb-true, eqb-false, ltb-true, leb-true, not-true, not-false}
-use Rattle.paper.specs.Outcome.{Outcome, gives}
+use borrow.Author.Tests.{eqb-true, eqb-false, ltb-true, leb-true, not-true, not-false}
+use Rattle.paper.specs.Outcome.{gives}
 use Rattle.paper.specs.Refusals.{number_of}
 use Rattle.paper.specs.Words.{value_of, bytes_of, Bytes}
 use Rattle.paper.specs.declared.refusal.Refusal.TheVariants.{NotASample, NotADescriptor, NotAReply}
-use Rattle.paper.proofs.Outcome.{refuse_no, refuse_not, gives_one}
-use Rattle.paper.proofs.Words.{bytes_of_value, byte_at, four_bytes, two_bytes}
+use Rattle.paper.proofs.Outcome.{refuse_not, gives_one}
+use Rattle.paper.proofs.Words.{byte_at, four_bytes, two_bytes}
 use Rattle.paper.proofs.Lists.{listed_whole}
 use Rattle.wire.specs.Request.{start_byte}
-use Rattle.wire.specs.Sample.{
-  angles,
-  qualities,
-  angle_in,
-  passes,
-  is_sample,
-  sample_in,
-  sample_of,
-  first_byte,
-  fit,
-  bytes_of_sample,
-  mark,
-  words_of,
-  words_of_sample,
-  are_words,
-  sample_from,
-  sample_of_words,
-}
+use Rattle.wire.specs.Sample.{angles, angle_in, passes, is_sample, sample_in, sample_of, first_byte, bytes_of_sample, mark, words_of, words_of_sample, are_words, sample_from, sample_of_words}
 use Rattle.wire.specs.Descriptor.{flag_byte, lengths, word_in, is_descriptor, descriptor_in, descriptor_of, bytes_of_descriptor}
 use Rattle.wire.specs.Reply.{error_status, info_in, info_of, bytes_of_info, is_health, health_in, health_of, bytes_of_health}
 use Rattle.wire.specs.declared.sample.Sample.{Sample}

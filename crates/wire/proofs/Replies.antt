@@ -1,18 +1,18 @@
 -- How the promises of the single replies are met: `info_no`, `info_yes`, `health_no`, `health_yes`, and which checks decide.
-use Prim.Native.Nat.{ℕ, ◌+◌, ◌-◌, ◌*◌, ◌<◌, ◌≤◌}
-use mathlib.Core.Path.{◌≡◌, refl, sym, ap, ◌∙◌}
-use mathlib.Core.Bool.{Bool, true, false, not}
+use Prim.Native.Nat.{ℕ, ◌-◌, ◌<◌, ◌≤◌}
+use mathlib.Core.Path.{◌≡◌, sym, ap, ◌∙◌}
+use mathlib.Core.Bool.{true, false, not}
 use mathlib.Core.List.{List, [], ◌∷◌, ◌++◌, append-nil}
 use native.Mathlib.Omega.{arith}
-use lib.ListN.{length, get_or, take, drop, set, replicate, length-drop, drop_of_length-le}
+use lib.ListN.{length, get_or, take, drop, length-drop, drop_of_length-le}
 use lib.Seq.{take_all}
 use borrow.Author.Tests.{lt-ltb, le-ltb, le-leb, lt-leb, eq-eqb, ne_eqb}
-use Rattle.paper.specs.Outcome.{Outcome, gives, refuses, refuse_if, if_given, mapped}
+use Rattle.paper.specs.Outcome.{gives, refuses, if_given, mapped}
 use Rattle.paper.specs.Refusals.{number_of, answered}
 use Rattle.paper.specs.Words.{value_of, bytes_of}
 use Rattle.paper.specs.declared.refusal.Refusal.TheVariants.{NotAReply}
 use Rattle.paper.specs.declared.refusal.Answer.TheVariants as answer
-use Rattle.paper.specs.Writing.{Writes, over, fitting}
+use Rattle.paper.specs.Writing.{Writes, over}
 use Rattle.paper.specs.declared.refusal.Written.{Written}
 use Rattle.paper.proofs.Outcome.{refuse_yes, refuse_no}
 use Rattle.paper.proofs.Writing.{fitting_yes}

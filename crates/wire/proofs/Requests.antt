@@ -1,14 +1,13 @@
 -- How a request's promises are met: `short_request`, `long_request`, `payload_unfit`, `payload_over` for what is written, `sum_behind` for the checksum.
-use Prim.Native.Nat.{ℕ, ◌+◌, ◌-◌, ◌<◌, ◌≤◌}
-use mathlib.Core.Path.{◌≡◌, refl, sym, ap, ◌∙◌}
-use mathlib.Core.Bool.{Bool, true, false, not}
+use Prim.Native.Nat.{ℕ, ◌+◌, ◌<◌, ◌≤◌}
+use mathlib.Core.Path.{◌≡◌, sym, ap, ◌∙◌}
 use mathlib.Core.List.{List, [], ◌∷◌, ◌++◌}
 use native.Mathlib.Omega.{arith}
 use native.Mathlib.Numerals.{add-one}
 use lib.ListN.{length, take, drop, set, get_or, length-append}
 use lib.Seq.{take_at, set_at, drop-cons, append_snoc}
 use borrow.Author.Tests.{lt-ltb, le-ltb}
-use Rattle.paper.specs.Outcome.{Outcome, gives, refuses, refuse_if}
+use Rattle.paper.specs.Outcome.{gives, refuses}
 use Rattle.paper.specs.Refusals.{number_of}
 use Rattle.paper.specs.declared.refusal.Refusal.TheVariants.{CodeNotPermitted}
 use Rattle.paper.specs.Sum.{sum_of}

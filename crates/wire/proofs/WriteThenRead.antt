@@ -2,39 +2,22 @@
 -- A premise on a number is its width: every value that the code can hold meets it.
 use Prim.Native.Nat.{ℕ, ◌+◌, ◌*◌, ◌/◌, ◌%◌, ◌<◌, ◌≤◌}
 use mathlib.Core.Path.{◌≡◌, refl, sym, ap, ◌∙◌}
-use mathlib.Core.Bool.{Bool, true, false, cond, not, ◌||◌}
+use mathlib.Core.Bool.{Bool, true, false, not, ◌||◌}
 use mathlib.Core.List.{List, [], ◌∷◌, ◌++◌}
 use native.Mathlib.Omega.{arith}
 use lib.Dec.{eqb, ltb, leb}
-use lib.ListN.{length, get_or, length-append}
-use borrow.Author.Tests.{lt-ltb, le-ltb, le-leb, lt-leb, eq-eqb, ne_eqb, ltb-false, leb-false, not-false}
-use Rattle.paper.specs.Outcome.{Outcome, gives}
+use lib.ListN.{length}
+use borrow.Author.Tests.{eq-eqb, ne_eqb, ltb-false, leb-false, not-false}
+use Rattle.paper.specs.Outcome.{gives}
 use Rattle.paper.specs.Refusals.{number_of}
 use Rattle.paper.specs.Words.{value_of, bytes_of}
 use Rattle.paper.specs.declared.refusal.Refusal.TheVariants.{NotASample, NotADescriptor, NotAReply}
 use Rattle.paper.proofs.Outcome.{refuse_no, refuse_not, gives_one}
 use Rattle.paper.proofs.Words.{value_of_bytes}
-use Rattle.wire.specs.Sample.{
-  angles,
-  qualities,
-  angle_in,
-  passes,
-  is_sample,
-  sample_in,
-  sample_of,
-  first_byte,
-  fit,
-  bytes_of_sample,
-  mark,
-  words_of,
-  words_of_sample,
-  are_words,
-  sample_from,
-  sample_of_words,
-}
+use Rattle.wire.specs.Sample.{angles, angle_in, is_sample, sample_in, sample_of, first_byte, fit, bytes_of_sample, mark, words_of, words_of_sample, sample_from, sample_of_words}
 use Rattle.wire.specs.Request.{start_byte}
-use Rattle.wire.specs.Descriptor.{flag_byte, lengths, word_in, is_descriptor, descriptor_in, descriptor_of, bytes_of_descriptor}
-use Rattle.wire.specs.Reply.{error_status, info_in, info_of, bytes_of_info, is_health, health_in, health_of, bytes_of_health}
+use Rattle.wire.specs.Descriptor.{flag_byte, lengths, word_in, descriptor_of, bytes_of_descriptor}
+use Rattle.wire.specs.Reply.{error_status, info_in, info_of, bytes_of_info, health_in, health_of, bytes_of_health}
 use Rattle.wire.proofs.Samples.{passes_all, fit_means, words_are}
 use Rattle.wire.proofs.Descriptors.{all_four, its_fields}
 use Rattle.wire.proofs.Replies.{status_fit}

@@ -9,7 +9,6 @@ use Rattle.wire.specs.Sample.{sample_of, sample_of_words, sample_read}
 use Rattle.wire.specs.declared.request.Request.{Request}
 use Rattle.wire.specs.declared.request.Kind.{Kind}
 use Rattle.wire.specs.declared.descriptor.DescriptorRead.{DescriptorRead}
-use Rattle.wire.specs.declared.reply.Info.{Info}
 use Rattle.wire.specs.declared.reply.InfoRead.{InfoRead}
 use Rattle.wire.specs.declared.reply.HealthRead.{HealthRead}
 use Rattle.wire.specs.declared.sample.SampleRead.{SampleRead}

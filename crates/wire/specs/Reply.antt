@@ -1,5 +1,5 @@
 -- Single replies. Info, 20 bytes: model, firmware minor, firmware major, hardware, serial (16). Health, 3 bytes: status, error code (16 bits).
-use Rattle.std.specs.Prelude.{ℕ, Bool, not, ◌&&◌, List, [], ◌∷◌, ◌++◌, ltb, leb, eqb, length, get_or, drop, replicate}
+use Rattle.std.specs.Prelude.{ℕ, Bool, not, ◌&&◌, List, [], ◌∷◌, ltb, leb, eqb, length, get_or, drop, replicate}
 use Rattle.paper.specs.Outcome.{Outcome, gives, refuses, refuse_if}
 use Rattle.paper.specs.Refusals.{number_of}
 use Rattle.paper.specs.Words.{value_of, bytes_of}

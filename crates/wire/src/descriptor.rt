@@ -7,14 +7,14 @@ use crate::request::Request;
 use paper::refusal::{Refusal, Written};
 use paper::{word, write};
 
-#[derive(Drop)]
+#[derive(Clone, Copy)]
 pub struct Descriptor {
     pub length: u32,
     pub mode: u8,
     pub kind: u8,
 }
 
-#[derive(Drop)]
+#[derive(Clone, Copy)]
 pub enum DescriptorRead {
     Gives(Descriptor),
     Refused(Refusal),

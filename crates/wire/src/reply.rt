@@ -6,7 +6,7 @@ ghost use Rattle.wire.specs.Promises.{InfoIsRead, HealthIsRead};
 use paper::refusal::{Answer, Refusal, Written};
 use paper::{word, write};
 
-#[derive(Drop)]
+#[derive(Clone, Copy)]
 pub struct Info {
     pub model: u8,
     // Of the firmware.
@@ -18,20 +18,20 @@ pub struct Info {
 }
 
 // The info where the answer is Done, and a blank one where it is refused.
-#[derive(Drop)]
+#[derive(Clone, Copy)]
 pub struct InfoRead {
     pub answer: Answer,
     pub info: Info,
 }
 
-#[derive(Drop)]
+#[derive(Clone, Copy)]
 pub struct Health {
     pub status: u8,
     // The error code.
     pub error: u16,
 }
 
-#[derive(Drop)]
+#[derive(Clone, Copy)]
 pub enum HealthRead {
     Gives(Health),
     Refused(Refusal),

@@ -9,11 +9,11 @@ use paper::refusal::{Refusal, Written};
 use paper::{sum, write};
 
 // A request by its code: any of the 256, of which six have a name.
-#[derive(Drop)]
+#[derive(Clone, Copy)]
 pub struct Request(pub u8);
 
 // Which of the six a request is.
-#[derive(Drop)]
+#[derive(Clone, Copy)]
 pub enum Kind {
     Stop,
     Reset,
@@ -116,6 +116,7 @@ impl Request {
     }
 
     // The request's bytes, with its payload.
+    #[tactic(auto, unfolding(crate::specs::Request::request_of, paper::specs::Outcome::refuse_if, paper::specs::Outcome::if_given, paper::specs::Outcome::mapped, paper::specs::Refusals::written, paper::specs::Writing::fitting))]
     pub fn write(self, payload: &[u8], out: &mut [u8]) -> Written
         ensures { Writes (request_of self.0 payload.now) out.old result out.new }
     {

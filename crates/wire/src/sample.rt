@@ -8,7 +8,7 @@ use paper::refusal::{Refusal, Written};
 use paper::unit::{AngleQ6, DistanceQ2};
 use paper::{word, write};
 
-#[derive(Drop)]
+#[derive(Clone, Copy)]
 pub struct Sample {
     pub start: bool,
     pub quality: u8,
@@ -16,7 +16,7 @@ pub struct Sample {
     pub distance: DistanceQ2,
 }
 
-#[derive(Drop)]
+#[derive(Clone, Copy)]
 pub enum SampleRead {
     Gives(Sample),
     Refused(Refusal),
@@ -43,6 +43,7 @@ impl Sample {
     }
 
     // Of the first five bytes of a part. All are read before the checks, so that these can be made together.
+    #[tactic(auto, unfolding(crate::specs::Sample::sample_read, crate::specs::Sample::sample_of, crate::specs::Sample::is_sample, crate::specs::Sample::passes, crate::specs::Sample::sample_in, paper::specs::Outcome::refuse_if))]
     pub fn front(part: &[u8]) -> SampleRead
         ensures { SampleIsRead (take 5 part.now) result }
     {
