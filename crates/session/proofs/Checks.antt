@@ -1,12 +1,12 @@
 -- The order of checks, one law for each check that decides (`earlier` to `all_passed`), and how a sending's promise is met: `sent_no`, `sent_yes`.
 use Prim.Native.Nat.{ℕ, ◌-◌, ◌<◌, ◌≤◌}
-use mathlib.Core.Path.{◌≡◌, refl, sym, ap, ◌∙◌}
+use mathlib.Core.Path.{◌≡◌, sym, ap, ◌∙◌}
 use mathlib.Core.Bool.{Bool, true, false, not, and-false}
 use mathlib.Core.List.{List}
 use native.Mathlib.Omega.{arith}
 use lib.ListN.{length}
 use borrow.Author.Tests.{lt-ltb, le-ltb, eq-eqb, ne_eqb, not-true, not-false}
-use Rattle.paper.specs.Outcome.{Outcome, gives, refuses, refuse_if, if_given, mapped}
+use Rattle.paper.specs.Outcome.{Outcome, gives, refuses, refuse_if}
 use Rattle.paper.specs.Refusals.{number_of, answered, written}
 use Rattle.paper.specs.Writing.{Writes}
 use Rattle.paper.specs.declared.refusal.Refusal.{Refusal}

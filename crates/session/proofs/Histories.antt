@@ -1,6 +1,6 @@
 -- The law over whole histories: the accepted requests keep the rules (`accepted_keep_rules`), and a sending that keeps them is never refused (`kept_is_sent`).
 -- From a fresh session on the rules are those over the list alone: `fresh_keeps` of proofs/Steps.antt.
-use Prim.Native.Nat.{ℕ, ◌+◌, ◌-◌, ◌≤◌, ◌<◌}
+use Prim.Native.Nat.{ℕ, ◌-◌, ◌≤◌, ◌<◌}
 use mathlib.Core.Path.{◌≡◌, refl, sym, ap, ◌∙◌}
 use mathlib.Core.Bool.{Bool, true, false, ◌&&◌}
 use mathlib.Core.List.{List, [], ◌∷◌, ◌++◌}

@@ -1,4 +1,6 @@
 // A session: what the host may send, and when.
+#![tactic(auto)]
+
 mod rule;
 
 ghost use Rattle.session.specs.Promises.{Begun, RequestSent, ReplyEnded};
@@ -8,14 +10,14 @@ use paper::refusal::{Answer, Refusal, Written};
 use wire::request::{Kind, Request};
 
 // Whether a single reply is awaited.
-#[derive(Drop)]
+#[derive(Clone, Copy)]
 pub enum Awaited {
     Nothing,
     Reply,
 }
 
 // Every value has a meaning; a fresh session has 0, 0 and Nothing.
-#[derive(Drop)]
+#[derive(Clone, Copy)]
 pub struct Session {
     // The time of the last request accepted, in milliseconds.
     pub last: u64,
@@ -25,7 +27,7 @@ pub struct Session {
 }
 
 // The session after a sending, and the count of bytes; where it is refused, the session as it was.
-#[derive(Drop)]
+#[derive(Clone, Copy)]
 pub struct Sent {
     pub session: Session,
     pub answer: Written,
@@ -43,6 +45,7 @@ impl Session {
     }
 
     // One of the six requests, with no payload, at a time in milliseconds.
+    #[tactic(auto, unfolding(crate::specs::Session::sending, crate::specs::Session::in_order, paper::specs::Outcome::refuse_if, paper::specs::Outcome::if_given, paper::specs::Outcome::mapped, paper::specs::Refusals::answered, paper::specs::Refusals::written, paper::specs::Writing::fitting))]
     pub fn send(self, time: u64, request: Request, payload: &[u8], out: &mut [u8]) -> Sent
         ensures { RequestSent self time request payload.now out.old result out.new }
     {
