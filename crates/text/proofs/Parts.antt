@@ -6,7 +6,7 @@ use mathlib.Core.List.{List}
 use native.Mathlib.Omega.{arith}
 use borrow.Author.Tests.{lt-ltb, le-ltb}
 use lib.ListN.{length, take, drop, length-drop, length-take}
-use Rattle.text.specs.Parts.{digit_in, StandsAt}
+use Rattle.text.specs.Parts.{digit_in}
 use Rattle.text.specs.Promises.{DigitRead, StandsTold}
 use Rattle.text.proofs.Never.{never}
 

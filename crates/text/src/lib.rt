@@ -1,5 +1,7 @@
 // Writing pieces of text behind each other in a lent buffer: bytes, a number in decimal, a byte in hex, a refusal's line. Each answers where the
 // next piece goes; a piece that has no room is not written, and then that is where it began.
+#![tactic(auto)]
+
 mod part;
 
 ghost use Rattle.std.specs.Prelude.{◌+◌, ◌≤◌, ◌<◌, ◌≡◌, [], ◌∷◌, length};
@@ -60,6 +62,7 @@ fn digits(n: u64) -> usize
 }
 
 // A number that has room: the digits before its last, and then that.
+#[tactic(auto, using(std::proofs::lemmas::Grind::common_steps, crate::proofs::Decimal::decimal_one, crate::proofs::Decimal::decimal_some), unfolding(crate::specs::Promises::fits, paper::specs::Promises::put_at))]
 fn write_number(text: &mut [u8], from: usize, n: u64) -> usize
     requires { from + length (decimal n) ≤ length text.old }
     ensures { Appends text.old from (decimal n) result text.new }
