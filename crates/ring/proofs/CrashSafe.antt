@@ -119,7 +119,7 @@ led_is S was (attempt rec n ∷ l) is v p c =
     led_is S c.0 l is (rw mid (ring_stores S was rec n v p.0 p.1)) p.2 c.2 ∙ ap (λ (m : List ℕ). after S m l) mid
 led_is S was (erasure ∷ l) is v p c =
     let mid : c.0 ≡ erased was = erased_is S was c.0 c.1 v c.2 in
-    led_is S c.0 l is (rw mid (ring_erased S was v.two-slots v.size v.head-is-byte)) p c.3 ∙ ap (λ (m : List ℕ). after S m l) mid
+    led_is S c.0 l is (rw mid (ring_erased S was v.two_slots v.size v.head_is_byte)) p c.3 ∙ ap (λ (m : List ℕ). after S m l) mid
 
 -- ---- THE THEOREM
 

@@ -64,7 +64,7 @@ pub ring_after : (S : ℕ) (mem : List ℕ) (l : List Event) → IsRing S mem �
 unfolding after Proper
 ring_after S mem [] v p = v
 ring_after S mem (attempt rec n ∷ l) v p = ring_after S (stores S mem rec n) l (ring_stores S mem rec n v p.0 p.1) p.2
-ring_after S mem (erasure ∷ l) v p = ring_after S (erased mem) l (ring_erased S mem v.two-slots v.size v.head-is-byte) p
+ring_after S mem (erasure ∷ l) v p = ring_after S (erased mem) l (ring_erased S mem v.two_slots v.size v.head_is_byte) p
 
 pub turns_after : (S : ℕ) (mem : List ℕ) (l : List Event) → IsRing S mem → Proper l → turns S (after S mem l) ≡ last (S - 1) (kept (turns S mem) l)
 unfolding after kept Proper
@@ -75,8 +75,8 @@ turns_after S mem (attempt rec n ∷ l) v p =
     ∙ last_kept (S - 1) (turns S (stores S mem rec n)) next l
     (ap (last (S - 1)) (turns_stores S mem rec n v p.0 p.1) ∙ last_idem (S - 1) next)
 turns_after S mem (erasure ∷ l) v p =
-    turns_after S (erased mem) l (ring_erased S mem v.two-slots v.size v.head-is-byte) p
-    ∙ ap (λ (ts : List (List ℕ)). last (S - 1) (kept ts l)) (turns_erased S mem v.two-slots v.size)
+    turns_after S (erased mem) l (ring_erased S mem v.two_slots v.size v.head_is_byte) p
+    ∙ ap (λ (ts : List (List ℕ)). last (S - 1) (kept ts l)) (turns_erased S mem v.two_slots v.size)
 
 -- what is kept reads
 all_tried : (ts : List (List ℕ)) (rec : List ℕ) (n : ℕ) → is_all_read ts ≡ true → reads rec ≡ true → is_all_read (tried ts rec n) ≡ true

@@ -104,7 +104,7 @@ module _ (S : ℕ) (mem rec : List ℕ) (v : IsRing S mem) (e : length rec ≡ 7
 
   pub slot_fits : slot_start (head_of mem % S) + 754 ≤ length mem
   slot_fits =
-      let two : 2 ≤ S = v.two-slots in
+      let two : 2 ≤ S = v.two_slots in
       let size : length mem ≡ 1 + 768 * S = v.size in
       omega (arith, mod-lt (head_of mem) {m = S} (omega arith))
 
@@ -129,8 +129,8 @@ module _ (S : ℕ) (mem rec : List ℕ) (v : IsRing S mem) (e : length rec ≡ 7
 pub ring_bytes : (S : ℕ) (mem rec : List ℕ) (n : ℕ) → n ≤ 754 → IsRing S mem → IsRing S (stores S mem rec n)
 ring_bytes S mem rec n b v =
     record {
-      two_slots = v.two-slots;
-      head_is_byte = v.head-is-byte;
+      two_slots = v.two_slots;
+      head_is_byte = v.head_is_byte;
       size = stores_size S mem rec n ∙ v.size;
       head = rw (bytes_head S mem rec n b) v.head;
     }
@@ -138,10 +138,10 @@ ring_bytes S mem rec n b v =
 pub ring_whole : (S : ℕ) (mem rec : List ℕ) → length rec ≡ 754 → IsRing S mem → IsRing S (stores S mem rec 755)
 ring_whole S mem rec e v =
     record {
-      two_slots = v.two-slots;
-      head_is_byte = v.head-is-byte;
+      two_slots = v.two_slots;
+      head_is_byte = v.head_is_byte;
       size = stores_size S mem rec 755 ∙ v.size;
-      head = rw (whole_head S mem rec v e) (next_ok S (head_of mem) v.two-slots v.head);
+      head = rw (whole_head S mem rec v e) (next_ok S (head_of mem) v.two_slots v.head);
     }
 
 -- and so after any one store
@@ -151,12 +151,12 @@ store_last S mem rec k some g = rw (store_end S mem rec k g) (get_or-set_same me
 pub ring_store : (S : ℕ) (mem rec : List ℕ) (k : ℕ) → IsRing S mem → IsRing S (store S mem rec k)
 ring_store S mem rec k v =
     record {
-      two_slots = v.two-slots;
-      head_is_byte = v.head-is-byte;
+      two_slots = v.two_slots;
+      head_is_byte = v.head_is_byte;
       size = store_size S mem rec k ∙ v.size;
       head =
           ⊎_elim
           (λ l. rw (byte_head S mem rec k l) v.head)
-          (λ g. rw (store_last S mem rec k (omega arith) g) (next_ok S (head_of mem) v.two-slots v.head))
+          (λ g. rw (store_last S mem rec k (omega arith) g) (next_ok S (head_of mem) v.two_slots v.head))
           (less_or_not k 754);
     }

@@ -62,7 +62,7 @@ module _ (S : ℕ) (mem : List ℕ) (k : ℕ) where
       ⊎_elim
       (λ b.
       let at : touched S mem k ≡ 1 + 768 * next_slot S (head_of mem) + k = touched_byte S mem k b in
-      slot_free S (head_of mem) v.two-slots v.head i l (omega arith))
+      slot_free S (head_of mem) v.two_slots v.head i l (omega arith))
       (λ g.
       let at : touched S mem k ≡ 0 = touched_head S mem k g in
       omega arith)

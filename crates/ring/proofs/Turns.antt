@@ -57,7 +57,7 @@ module _ (S : ℕ) (mem rec : List ℕ) (v : IsRing S mem) where
       rw e
       (same_first S mem' mem (held S (head_of mem)) (λ i c.
       ap (λ (h : ℕ). in_slot (slot_of S h i) mem') e
-      ∙ f (slot_of S (head_of mem) i) (slot_free S (head_of mem) v.two-slots v.head i c)))
+      ∙ f (slot_of S (head_of mem) i) (slot_free S (head_of mem) v.two_slots v.head i c)))
 
   -- no store of a record's byte changes the turns
   pub turns_byte : (k : ℕ) → k < 754 → turns S (store S mem rec k) ≡ turns S mem
@@ -83,16 +83,16 @@ module _ (S : ℕ) (mem rec : List ℕ) (v : IsRing S mem) where
         let j : ℕ = gone S h + i in
         let new : List ℕ = stores S mem rec 755 in
         let size : length (turns S mem) ≡ held S h = length-turns S mem in
-        let n : held S (next_head S h) + gone S h ≡ held S h + 1 = held_next S h v.two-slots v.head in
+        let n : held S (next_head S h) + gone S h ≡ held S h + 1 = held_next S h v.two_slots v.head in
         ap (λ (x : ℕ). in_slot (slot_of S x i) new) (whole_head S mem rec v e)
         ∙ ⊎_elim
         (λ l.
-        ap (λ (x : ℕ). in_slot x new) (slot_kept S h v.two-slots v.head i b l)
-        ∙ whole_kept S mem rec v e (slot_of S h j) (slot_free S h v.two-slots v.head j l)
+        ap (λ (x : ℕ). in_slot x new) (slot_kept S h v.two_slots v.head i b l)
+        ∙ whole_kept S mem rec v e (slot_of S h j) (slot_free S h v.two_slots v.head j l)
         ∙ sym (get_or-turns S mem j l)
         ∙ sym (get_or-append (turns S mem) (rec ∷ []) [] j (omega arith)))
         (λ g.
-        ap (λ (x : ℕ). in_slot x new) (slot_new S h v.two-slots v.head i b g)
+        ap (λ (x : ℕ). in_slot x new) (slot_new S h v.two_slots v.head i b g)
         ∙ whole_new S mem rec v e
         ∙ sym (get_or_at (turns S mem) rec [] [] j (omega arith)))
         (less_or_not j (held S h))
@@ -102,7 +102,7 @@ module _ (S : ℕ) (mem rec : List ℕ) (v : IsRing S mem) where
     unfolding turns last grown
     turns_whole =
         let h : ℕ = head_of mem in
-        let n : held S (next_head S h) + gone S h ≡ held S h + 1 = held_next S h v.two-slots v.head in
+        let n : held S (next_head S h) + gone S h ≡ held S h + 1 = held_next S h v.two_slots v.head in
         ap (λ (x : ℕ). first_turns S (stores S mem rec 755) (held S x)) (whole_head S mem rec v e)
         ∙ ext_get_or [] (first_turns S (stores S mem rec 755) (held S (next_head S h))) (drop (gone S h) grown)
         (length_first S (stores S mem rec 755) (held S (next_head S h)) ∙ sym (length-drop (gone S h) grown ∙ omega (arith, length_grown)))
@@ -113,7 +113,7 @@ module _ (S : ℕ) (mem rec : List ℕ) (v : IsRing S mem) where
 
 -- a ring holds at most S - 1 turns
 pub turns_fit : (S : ℕ) (mem : List ℕ) → IsRing S mem → length (turns S mem) ≤ S - 1
-turns_fit S mem v = omega (arith, length-turns S mem, held_min S (head_of mem) v.two-slots v.head)
+turns_fit S mem v = omega (arith, length-turns S mem, held_min S (head_of mem) v.two_slots v.head)
 
 -- ---- erasing
 

@@ -1,7 +1,7 @@
 // What the question of how many turns are held is answered by.
 use paper::refusal::Refusal;
 
-#[derive(Drop)]
+#[derive(Clone, Copy)]
 pub enum Held {
     Turns(usize),
     Refused(Refusal),

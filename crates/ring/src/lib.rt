@@ -1,4 +1,6 @@
 // The ring of turn records in a memory that the caller lends: one head byte and 64 slots of 768 bytes.
+#![tactic(auto)]
+
 pub mod answer;
 mod check;
 mod place;

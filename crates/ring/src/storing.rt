@@ -16,6 +16,7 @@ fn put(slot: &mut [u8], k: usize, b: u8)
 }
 
 // Store k of a record, where it may be made.
+#[tactic(auto, using(crate::proofs::Stores::lent_store, crate::proofs::Stores::store_end))]
 fn make(mem: &mut [u8], rec: &[u8], k: usize)
     requires ring { IsRing slots mem.old }
     requires rec_len { length rec.now ≡ 754 }
