@@ -1,13 +1,7 @@
 -- Two answers, and two outputs at exit, that the promise of `list` or of `list_turn` allows are equal.
-use Rattle.std.proofs.Common.{◌≡◌, ℕ, ◌≤◌, List, length, refl, ap, ◌∙◌, arith}
-use Rattle.paper.specs.Outcome.{mapped}
-use Rattle.paper.specs.Refusals.{written}
+use Rattle.std.proofs.Common.{◌≡◌, ℕ, List}
 use Rattle.paper.specs.declared.refusal.Written.{Written}
-use Rattle.paper.specs.declared.refusal.Written.TheVariants.{Bytes}
-use Rattle.paper.proofs.Refusals.{written_one}
-use Rattle.paper.proofs.Writing.{fitting_yes}
 use Rattle.paper.proofs.Determined.{writes_determined}
-use Rattle.listing.specs.Text.{text_of, room_for}
 use Rattle.listing.specs.Promises.{ListGiven, LineGiven}
 
 pub list_determined : {S : ℕ} {mem was : List ℕ} {r s : Written} {is js : List ℕ} → ListGiven S mem was r is → ListGiven S mem was s js → (r ≡ s) × (is ≡ js)

@@ -1,4 +1,6 @@
 // The text of a ring, written into a lent buffer.
+#![tactic(auto)]
+
 mod image;
 mod line;
 mod turn;
