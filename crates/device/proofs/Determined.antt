@@ -3,8 +3,6 @@ use Prim.Native.Nat.{ℕ}
 use mathlib.Core.Bool.{Bool}
 use mathlib.Core.Path.{◌≡◌, refl, sym, ap, ap₂, ◌∙◌}
 use mathlib.Core.List.{List}
-use mathlib.Core.Option.{none, some}
-use native.Mathlib.Omega.{arith}
 use Rattle.paper.proofs.Cases.{none_some}
 use Rattle.paper.proofs.Outcome.{gives_one, gives_refuses}
 use Rattle.paper.proofs.Refusals.{refused_one, answered_one}

@@ -1,17 +1,15 @@
 -- What the model sends reads back: its descriptors are the expected ones, and its info, health and samples are what the bench gave.
 -- `scan_read`, `info_read`, `health_read_lem` over the promise of a request, `sample_read_lem` over that of a sample, `descriptors_read` of the three descriptors.
-use Prim.Native.Nat.{ℕ, ◌+◌, ◌<◌}
+use Prim.Native.Nat.{ℕ, ◌<◌}
 use mathlib.Core.Path.{◌≡◌, refl, sym, ap, ◌∙◌}
 use mathlib.Core.Bool.{Bool, true, false, cond, not}
 use mathlib.Core.List.{List, [], ◌++◌}
-use lib.Dec.{ltb}
 use lib.ListN.{length, take, drop}
 use lib.Seq.{take_at, drop_at}
-use borrow.Author.Tests.{ltb-true, ltb-false}
-use Rattle.paper.specs.Outcome.{Outcome, gives, refuses, refuse_if, if_given, mapped}
-use Rattle.paper.specs.Refusals.{number_of, written}
+use Rattle.paper.specs.Outcome.{Outcome, gives, refuses, refuse_if, mapped}
+use Rattle.paper.specs.Refusals.{number_of}
 use Rattle.paper.specs.Words.{value_of}
-use Rattle.paper.specs.Writing.{Writes, over, fitting}
+use Rattle.paper.specs.Writing.{Writes}
 use Rattle.paper.specs.declared.refusal.Refusal.TheVariants.{NoSampleSent}
 use Rattle.paper.specs.declared.refusal.Written.TheVariants as writing
 use Rattle.paper.proofs.Outcome.{gives_one, gives_refuses, refuse_not}

@@ -9,7 +9,7 @@ use paper::refusal::Refusal;
 use wire::request::Request;
 
 // How much of a packet is there.
-#[derive(Drop)]
+#[derive(Clone, Copy)]
 pub enum Stage {
     // Nothing: no packet is begun.
     Empty,
@@ -26,7 +26,7 @@ pub enum Stage {
     },
 }
 
-#[derive(Drop)]
+#[derive(Clone, Copy)]
 pub struct Collector {
     pub stage: Stage,
     // When the packet's A5 came.
@@ -37,14 +37,14 @@ pub struct Collector {
 }
 
 // What a byte completes: of a packet, the payload is the first bytes of the lent memory.
-#[derive(Drop)]
+#[derive(Clone, Copy)]
 pub enum Completed {
     Nothing,
     Packet { request: Request, size: u8 },
     Refused(Refusal),
 }
 
-#[derive(Drop)]
+#[derive(Clone, Copy)]
 pub struct Collected {
     pub collector: Collector,
     pub answer: Completed,

@@ -16,7 +16,7 @@ use wire::request::{Kind, Request};
 use wire::sample::Sample;
 
 // What the scanner is doing; scanning remembers whether SCAN or FORCE_SCAN came last.
-#[derive(Drop)]
+#[derive(Clone, Copy)]
 pub enum State {
     Idle,
     Scanning,
@@ -24,7 +24,7 @@ pub enum State {
     ProtectionStop,
 }
 
-#[derive(Drop)]
+#[derive(Clone, Copy)]
 pub struct Model {
     pub state: State,
     // Whether the bench says that the motor is stable.
@@ -41,14 +41,14 @@ pub struct Model {
 }
 
 // The model behind a request, and the count of bytes sent; where it is refused, the model as it was.
-#[derive(Drop)]
+#[derive(Clone, Copy)]
 pub struct Asked {
     pub model: Model,
     pub answer: Written,
 }
 
 // The model behind a setting; where it is refused, the model as it was.
-#[derive(Drop)]
+#[derive(Clone, Copy)]
 pub struct HealthSet {
     pub model: Model,
     pub answer: Answer,
@@ -138,6 +138,7 @@ impl Model {
     }
 
     // Status and error code together.
+    #[tactic(auto, unfolding(crate::specs::Model::setting, crate::specs::Model::with_health, paper::specs::Outcome::refuse_if, paper::specs::Outcome::if_given, paper::specs::Refusals::answered))]
     pub fn set_health(self, status: u8, error: u16) -> HealthSet
         ensures { HealthSetting self status error result }
     {
