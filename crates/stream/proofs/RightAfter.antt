@@ -12,7 +12,7 @@ use lib.ListN.{length, take, drop, length-drop}
 use lib.Seq.{sets, length-sets}
 use Rattle.paper.specs.Outcome.{Outcome, gives, refuses}
 use Rattle.framing.specs.Framing.{frame, reject, size, fresh, after}
-use Rattle.framing.specs.Run.{events, skipped}
+use Rattle.framing.specs.Run.{events}
 use Rattle.framing.specs.Stages.{fails, passes, spoiled, step_of}
 use Rattle.framing.specs.Calls.{outputs}
 use Rattle.wire.specs.declared.sample.Sample.{Sample}

@@ -1,5 +1,7 @@
 // The reader of the response stream: it is told each request sent, and reads the bytes that come.
 
+#![tactic(auto)]
+
 mod held;
 mod hold;
 mod reply;
@@ -17,7 +19,7 @@ use wire::reply::{Health, Info};
 use wire::request::{Kind, Request};
 
 // What the reader waits for.
-#[derive(Drop)]
+#[derive(Clone, Copy)]
 pub enum Phase {
     Idle,
     SeekInfo,
@@ -29,7 +31,7 @@ pub enum Phase {
 }
 
 // Why a call stopped.
-#[derive(Drop)]
+#[derive(Clone, Copy)]
 pub enum Stop {
     AllTaken,
     NoRoom,
@@ -39,7 +41,7 @@ pub enum Stop {
 }
 
 // A reader: its phase, the first n bytes of `held`, and how many bytes it skipped.
-#[derive(Drop)]
+#[derive(Clone, Copy)]
 pub struct Reader {
     pub phase: Phase,
     pub n: u8,
@@ -48,7 +50,7 @@ pub struct Reader {
 }
 
 // What a call answers: the reader after it, bytes taken, words written, why it stopped, and the reply at stop 3.
-#[derive(Drop)]
+#[derive(Clone, Copy)]
 pub struct Reading {
     pub reader: Reader,
     pub taken: usize,
@@ -58,7 +60,7 @@ pub struct Reading {
 }
 
 // What telling a request answers: the reader after it, and whether the request was refused.
-#[derive(Drop)]
+#[derive(Clone, Copy)]
 pub struct Told {
     pub reader: Reader,
     pub answer: Answer,

@@ -10,7 +10,7 @@ use crate::{Phase, Reading, Stop, hold};
 const BLOCK: usize = 32;
 
 // The first place at which the seven bytes stand, or the first at which there are too few.
-#[derive(Drop)]
+#[derive(Clone, Copy)]
 pub struct Match {
     pub at: usize,
     pub found: bool,

@@ -8,7 +8,7 @@ use lib.ListN.{length, take, drop, set, length-append, length-take, take-append-
 use lib.Seq.{sets, sets-eq, length-sets, take_at, drop-set-lt, length-take-le}
 use Rattle.paper.specs.Writing.{over}
 use Rattle.framing.specs.Framing.{more, fresh, test}
-use Rattle.framing.specs.Run.{stopped, joined, skipped}
+use Rattle.framing.specs.Run.{stopped, joined}
 use Rattle.framing.specs.Calls.{words_of as words_in, Answer}
 use Rattle.framing.proofs.Calls.{call_words}
 use Rattle.framing.proofs.Places.{behind, call_held}

@@ -19,7 +19,7 @@ use Rattle.stream.specs.declared.Stop.TheVariants.{AllTaken, Descriptor}
 use Rattle.stream.specs.declared.Reader.{Reader}
 use Rattle.stream.specs.declared.Reading.{Reading}
 use Rattle.wire.specs.Descriptor.{info_descriptor, health_descriptor, scan_descriptor}
-use Rattle.stream.specs.Table.{descriptor, headed, same, seeking, width, says, follows, reader, things_of, words_for, ends_call, row_of}
+use Rattle.stream.specs.Table.{descriptor, headed, same, seeking, width, says, follows, things_of, words_for, ends_call, row_of}
 use Rattle.stream.specs.State.{twenty, capped, written}
 use Rattle.stream.specs.Stops.{reply_for, stop_of}
 use Rattle.stream.specs.inner.Account.{put, Account, comes_to, Moves, reading_of, Comes}
