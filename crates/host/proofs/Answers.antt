@@ -1,5 +1,5 @@
 -- How each promise of the host is met from those of session, reader, gatherer and record.
-use Prim.Native.Nat.{ℕ, ◌≤◌}
+use Prim.Native.Nat.{ℕ}
 use mathlib.Core.Path.{◌≡◌, refl, sym, ap, ◌∙◌}
 use mathlib.Core.Bool.{Bool, true, false, not}
 use mathlib.Core.Option.{Option, none, some}
@@ -7,7 +7,7 @@ use mathlib.Core.List.{List}
 use native.Mathlib.Omega.{arith}
 use lib.ListN.{length}
 use Rattle.paper.specs.Outcome.{Outcome, gives, refuses, if_given, mapped}
-use Rattle.paper.specs.Refusals.{number_of, answered, written}
+use Rattle.paper.specs.Refusals.{number_of, written}
 use Rattle.paper.specs.Writing.{Writes, fitting, over}
 use Rattle.paper.specs.declared.refusal.Refusal.{Refusal}
 use Rattle.paper.specs.declared.refusal.Refusal.TheVariants.{NotARecord}
@@ -25,19 +25,17 @@ use Rattle.session.specs.Promises.{RequestSent}
 use Rattle.session.specs.declared.Session.{Session}
 use Rattle.session.specs.declared.Sent.{Sent}
 use Rattle.stream.specs.Promises.{Reads, Tells}
-use Rattle.stream.specs.declared.Reader.{Reader}
 use Rattle.stream.specs.declared.Reading.{Reading}
 use Rattle.stream.specs.declared.Told.{Told as ReaderTold}
 use Rattle.turn.specs.Gather.{Told as GathererTold, gathered as gathered_by, told_by, row_of}
-use Rattle.turn.specs.Promises.{Fresh, gathering, Gathers, GathersRow}
+use Rattle.turn.specs.Promises.{Fresh, gathering, GathersRow}
 use Rattle.turn.specs.declared.gather.Gatherer.{Gatherer}
 use Rattle.turn.specs.declared.gather.Gathered.TheVariants as answer
 use Rattle.turn.specs.declared.gather.RowGathered.{RowGathered}
-use Rattle.host.specs.Host.{asked, waited, kept, through, reading_of, gathered, record_for, ready, told_of}
+use Rattle.host.specs.Host.{asked, reading_of, gathered, record_for, ready, told_of}
 use Rattle.host.specs.Promises.{Asks, Hears, Turns}
 use Rattle.host.specs.inner.Noted.{waited_at, is_info, kept_at}
 use Rattle.host.specs.declared.Host.{Host}
-use Rattle.host.specs.declared.Heard.{Heard}
 use Rattle.host.specs.declared.Told.{Told}
 use Rattle.host.specs.declared.Told.TheVariants as told
 use Rattle.host.proofs.Noted.{noted_session, noted_serial}

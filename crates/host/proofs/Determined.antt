@@ -1,9 +1,8 @@
 -- Two answers that a promise allows are equal: `made_determined`, `asks_determined`, `hears_determined`, `turns_determined`, `number_determined`.
 use Prim.Native.Nat.{ℕ}
 use mathlib.Core.Path.{◌≡◌, refl, sym, ap, ◌∙◌}
-use mathlib.Core.Option.{Option, none, some}
+use mathlib.Core.Option.{Option, some}
 use mathlib.Core.List.{List}
-use native.Mathlib.Omega.{arith}
 use Rattle.paper.proofs.Cases.{none_some}
 use Rattle.paper.specs.declared.refusal.Written.{Written}
 use Rattle.paper.proofs.Outcome.{gives_one, gives_refuses}
@@ -11,7 +10,6 @@ use Rattle.paper.proofs.Refusals.{refused_one}
 use Rattle.paper.proofs.Determined.{writes_determined}
 use Rattle.wire.specs.declared.request.Request.{Request}
 use Rattle.session.specs.declared.Session.{Session}
-use Rattle.stream.specs.declared.Reader.{Reader}
 use Rattle.stream.specs.declared.Reading.{Reading}
 use Rattle.stream.proofs.Determined.{reads_determined}
 use Rattle.turn.specs.declared.gather.Gatherer.{Gatherer}

@@ -1,11 +1,11 @@
 -- What a call gives, noted: the stop alone decides (`noted_session`, `noted_serial`), since samples change neither session nor serial.
 use Prim.Native.Nat.{ℕ, ◌-◌}
 use mathlib.Core.Path.{◌≡◌, refl, sym, ap, ◌∙◌}
-use mathlib.Core.Bool.{Bool, true, false, not}
+use mathlib.Core.Bool.{true, not}
 use mathlib.Core.List.{List, [], ◌∷◌, ◌++◌, append-nil}
 use native.Mathlib.Omega.{arith}
 use borrow.Author.Tests.{eq-eqb, ne_eqb}
-use lib.ListN.{length, drop, replicate, length-take}
+use lib.ListN.{length, drop}
 use lib.Seq.{length-take-le}
 use Rattle.paper.specs.Outcome.{gives, if_given}
 use Rattle.paper.specs.Refusals.{number_of}

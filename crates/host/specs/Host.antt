@@ -16,8 +16,7 @@ use Rattle.stream.specs.Table.{Thing, headed, replied, unread, point}
 use Rattle.stream.specs.Telling.{told_reader}
 use Rattle.stream.specs.declared.Reading.{Reading}
 use Rattle.turn.specs.Gather.{End}
-use Rattle.turn.specs.declared.gather.Gatherer.{Gatherer}
-use Rattle.record.specs.Record.{Turn, record_of}
+use Rattle.record.specs.Record.{record_of}
 use Rattle.host.specs.declared.Host.{Host}
 use Rattle.host.specs.declared.Heard.{Heard}
 use Rattle.host.specs.declared.Told.{Told}

@@ -1,4 +1,6 @@
 // The recorder's core: session, reader and gatherer joined in one value, so that a request tells all of them, and the serial for the records.
+#![tactic(auto)]
+
 mod note;
 pub mod number;
 mod ready;
@@ -14,7 +16,7 @@ use stream::{Reader, Stop};
 use turn::gather::{Gathered, Gatherer};
 use wire::request::Request;
 
-#[derive(Drop)]
+#[derive(Clone, Copy)]
 pub struct Host {
     pub session: Session,
     pub reader: Reader,
@@ -24,14 +26,14 @@ pub struct Host {
 }
 
 // The host after a request, and the count of bytes to send; where it is refused, the host as it was.
-#[derive(Drop)]
+#[derive(Clone, Copy)]
 pub struct Asked {
     pub host: Host,
     pub answer: Written,
 }
 
 // What a call of the reader answers, with the host after it.
-#[derive(Drop)]
+#[derive(Clone, Copy)]
 pub struct Heard {
     pub host: Host,
     pub taken: usize,
@@ -40,7 +42,7 @@ pub struct Heard {
     pub reply: [u8; 20],
 }
 
-#[derive(Drop)]
+#[derive(Clone, Copy)]
 pub enum Told {
     // The words are taken, and no turn closed.
     Taken,
@@ -50,7 +52,7 @@ pub enum Told {
 }
 
 // The host after a row, how many of its words were taken, and what they led to.
-#[derive(Drop)]
+#[derive(Clone, Copy)]
 pub struct Turned {
     pub host: Host,
     pub words: usize,
