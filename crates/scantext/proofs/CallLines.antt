@@ -1,5 +1,5 @@
 -- THE TEXT OF A CALL is the lines of the things that it gives, in order: `call_lines`, of every answer that the promise of `read` allows.
-use Prim.Native.Nat.{ℕ, ◌+◌, ◌-◌, ◌/◌, ◌%◌}
+use Prim.Native.Nat.{ℕ, ◌-◌, ◌/◌, ◌%◌}
 use mathlib.Core.Path.{◌≡◌, refl, sym, ap, ap₂, ◌∙◌}
 use mathlib.Core.Bool.{Bool, true, false, cond}
 use mathlib.Core.List.{List, [], ◌∷◌, ◌++◌, flat_map, append-nil}

@@ -1,22 +1,9 @@
 -- The stated room suffices: `call_short` (no text of a call is longer) and `end_short`.
 use Prim.Native.Nat.{ℕ, suc, ◌+◌, ◌*◌, ◌/◌, ◌%◌, ◌^◌, ◌≤◌, ◌<◌}
-use mathlib.Core.Path.{◌≡◌, refl, sym, ap, ◌∙◌}
-use mathlib.Core.Bool.{Bool, true, false}
 use mathlib.Core.List.{List, [], ◌∷◌, ◌++◌, flat_map}
 use native.Mathlib.Omega.{arith}
-use borrow.Author.Tests.{le-ltb, ltb-true, ltb-false}
-use lib.Dec.{ltb}
 use lib.ListN.{length, take, length-append, length-take}
-use Rattle.paper.specs.Outcome.{Outcome, gives, refuses, if_given, mapped}
-use Rattle.paper.specs.Refusals.{number_of, written}
 use Rattle.paper.specs.Words.{Each}
-use Rattle.paper.specs.Writing.{fitting, over, Writes}
-use Rattle.paper.specs.declared.refusal.Refusal.TheVariants.{OutputShort}
-use Rattle.paper.specs.declared.refusal.Written.{Written}
-use Rattle.paper.specs.declared.refusal.Written.TheVariants.{Bytes}
-use Rattle.paper.proofs.Outcome.{gives_one, gives_refuses, refuse_not, refuse_no}
-use Rattle.paper.proofs.Refusals.{written_one}
-use Rattle.paper.proofs.Writing.{fitting_yes, fitting_no, length_over, written_front}
 use Rattle.stream.specs.declared.Phase.{Phase}
 use Rattle.stream.specs.declared.Phase.TheVariants.{Idle, SeekInfo, SeekHealth, SeekScan, InfoReply, HealthReply, Scanning}
 use Rattle.stream.specs.declared.Stop.{Stop}

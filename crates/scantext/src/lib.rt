@@ -1,4 +1,6 @@
 // The text of what the reader of the response stream gives, line by line into a lent output.
+#![tactic(auto)]
+
 mod line;
 mod row;
 
