@@ -1,5 +1,5 @@
 -- The edges that the scope paper marks P, as one table about the definitions: what they come to, beside what the paper says of them.
-use Rattle.std.specs.Prelude.{ℕ, Bool, true, false, cond, ◌&&◌, List, [], ◌∷◌, map, ◌++◌, length, replicate}
+use Rattle.std.specs.Prelude.{ℕ, Bool, true, cond, ◌&&◌, List, [], ◌∷◌, length, replicate}
 use Rattle.paper.specs.Outcome.{Outcome, gives, refuses}
 use Rattle.wire.specs.Sample.{sample_of}
 use Rattle.wire.specs.Reply.{health_of}
