@@ -1,7 +1,7 @@
 -- What the model sends, one reading reads back: `descriptor_given`, `info_given`, `health_given`, `scan_given`.
 use Prim.Native.Nat.{ℕ, ◌+◌}
 use mathlib.Core.Path.{◌≡◌, refl, sym, ap, ◌∙◌}
-use mathlib.Core.Bool.{Bool, true, false, not, ◌&&◌}
+use mathlib.Core.Bool.{true, not}
 use mathlib.Core.Option.{some}
 use mathlib.Core.List.{List, [], ◌∷◌, ◌++◌, map, flat_map, append-nil}
 use native.Mathlib.Omega.{arith}
@@ -15,14 +15,13 @@ use Rattle.paper.specs.Words.{Each}
 use Rattle.paper.specs.declared.refusal.Written.TheVariants.{Bytes}
 use Rattle.paper.specs.Writing.{Writes}
 use Rattle.paper.proofs.Outcome.{refuse_not}
-use Rattle.framing.specs.Framing.{Step, frame, size, State, fresh, fed, after}
+use Rattle.framing.specs.Framing.{frame, size, State, fresh, fed, after}
 use Rattle.framing.specs.Run.{Result, run, joined, stepped, events}
 use Rattle.framing.specs.Stages.{step_of}
 use Rattle.framing.specs.Calls.{outputs}
-use Rattle.framing.proofs.Giving.{outputs-append}
 use Rattle.wire.specs.declared.sample.Sample.{Sample}
 use Rattle.wire.specs.declared.reply.Health.{Health}
-use Rattle.wire.specs.Sample.{fit, is_sample, passes, sample_in, sample_of, bytes_of_sample}
+use Rattle.wire.specs.Sample.{fit, is_sample, passes, sample_of, bytes_of_sample}
 use Rattle.wire.specs.Reply.{health_of, is_health}
 use Rattle.wire.specs.Descriptor.{scan_descriptor}
 use Rattle.paper.proofs.Cases.{both_hold}
@@ -30,7 +29,7 @@ use Rattle.stream.specs.Table.{Event, descriptor, reply, Thing, headed, replied,
 use Rattle.stream.specs.State.{meaning}
 use Rattle.stream.specs.Readings.{first_place, Scan, scan, sampled, over}
 use Rattle.stream.specs.declared.Phase.{Phase}
-use Rattle.stream.specs.declared.Phase.TheVariants.{Idle, SeekScan, InfoReply, HealthReply, Scanning}
+use Rattle.stream.specs.declared.Phase.TheVariants.{Idle, SeekScan, InfoReply, HealthReply}
 use Rattle.stream.specs.declared.Reader.{Reader}
 use Rattle.stream.specs.inner.Seek.{Seeks}
 use Rattle.stream.proofs.Table.{same_refl}
@@ -40,7 +39,7 @@ use Rattle.device.specs.Model.{sends_samples, sample_sent}
 use Rattle.device.specs.declared.model.Model.{Model}
 use Rattle.device.proofs.ReadBack.{sample_read_lem}
 use Rattle.whole.specs.Line.{Sends, none, one}
-use Rattle.whole.proofs.Given.{reading, given}
+use Rattle.whole.proofs.Given.{given}
 use Rattle.whole.proofs.Things.{all_fit}
 use Rattle.whole.proofs.Fit.{Near}
 

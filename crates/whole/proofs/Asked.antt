@@ -1,6 +1,6 @@
 -- A request that a host sends: a collector collects it (`sent_collected`), and the host awaits the answer to it (`asked_awaits`).
 use Prim.Native.Nat.{ℕ, suc, ◌-◌, ◌≤◌}
-use mathlib.Core.Path.{◌≡◌, refl, sym, ap, ◌∙◌}
+use mathlib.Core.Path.{◌≡◌, sym, ap, ◌∙◌}
 use mathlib.Core.List.{List}
 use lib.ListN.{length, take}
 use Rattle.paper.proofs.Writing.{written_front}
@@ -10,13 +10,12 @@ use Rattle.paper.specs.Writing.{Writes, fitting}
 use Rattle.paper.specs.declared.refusal.Written.TheVariants.{Bytes}
 use Rattle.paper.proofs.Outcome.{refuse_not, given_one}
 use Rattle.framing.specs.Framing.{fresh}
-use Rattle.wire.specs.Request.{kind_of, request_of, packet_time}
+use Rattle.wire.specs.Request.{kind_of, packet_time}
 use Rattle.wire.specs.declared.request.Request.{Request}
 use Rattle.session.specs.Session.{in_order, sending, accepted}
-use Rattle.stream.specs.State.{held_of, meaning, written as written_reader}
+use Rattle.stream.specs.State.{meaning}
 use Rattle.stream.specs.Telling.{opens, told_reader}
 use Rattle.stream.specs.declared.Phase.{Phase}
-use Rattle.stream.specs.declared.Reader.{Reader}
 use Rattle.stream.proofs.Table.{width_pos}
 use Rattle.stream.proofs.History.{meaning_written}
 use Rattle.turn.specs.Promises.{Fresh}

@@ -6,7 +6,7 @@ use lib.ListN.{length, take, drop}
 use lib.Seq.{take_at}
 use lib.ListN.{take-append-drop}
 use Rattle.paper.specs.Writing.{over as over_row}
-use Rattle.framing.specs.Framing.{State, fed}
+use Rattle.framing.specs.Framing.{fed}
 use Rattle.framing.specs.Run.{Result, run, joined, stopped, events}
 use Rattle.framing.specs.Calls.{Answer, outputs}
 use Rattle.framing.proofs.Run.{cutting_at, run_none}
@@ -25,7 +25,7 @@ use Rattle.wire.specs.declared.sample.Sample.{Sample}
 use Rattle.turn.specs.Gather.{End, row_of as row_samples}
 use Rattle.turn.specs.Promises.{gathering}
 use Rattle.host.specs.Host.{waited, kept, through, reading_of, gathered}
-use Rattle.host.specs.Promises.{Hears, Turns}
+use Rattle.host.specs.Promises.{Hears}
 use Rattle.host.specs.declared.Host.{Host}
 use Rattle.host.specs.declared.Heard.{Heard}
 use Rattle.host.proofs.Noted.{through_append}

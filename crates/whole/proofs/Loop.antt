@@ -1,7 +1,7 @@
 -- THE WHOLE LOOP. `info_back` and `health_back`: the host reads back the info and the health that the bench gave and set. `model_to_records`: of
 -- exactly the samples that the model was given, in order and whatever the cuts, each turn that closes becomes a record that tells it.
 -- `model_to_listing`: these records, stored, are what the listing shows. From the model to the listing nothing is lost, invented or reordered.
-use Prim.Native.Nat.{ℕ, ◌-◌, ◌<◌, ◌≤◌}
+use Prim.Native.Nat.{ℕ, ◌-◌, ◌<◌}
 use mathlib.Core.Path.{◌≡◌, refl, sym, ap, subst, ◌∙◌}
 use mathlib.Core.Bool.{true}
 use mathlib.Core.List.{List, [], ◌∷◌, ◌++◌, map}
@@ -11,7 +11,6 @@ use Rattle.paper.proofs.Outcome.{refuse_not}
 use Rattle.paper.specs.Outcome.{gives, if_given}
 use Rattle.paper.specs.Words.{Each, Bytes}
 use Rattle.paper.specs.declared.refusal.Written.TheVariants as writing
-use Rattle.framing.specs.Framing.{fresh}
 use Rattle.wire.specs.Request.{kind_of}
 use Rattle.wire.specs.Reply.{info_of, health_of}
 use Rattle.wire.specs.Descriptor.{scan_descriptor, info_descriptor, health_descriptor}
@@ -20,16 +19,11 @@ use Rattle.wire.specs.declared.request.Kind.TheVariants.{GetInfo, GetHealth}
 use Rattle.wire.specs.declared.reply.Info.{Info}
 use Rattle.wire.specs.declared.sample.Sample.{Sample}
 use Rattle.session.specs.Session.{ended}
-use Rattle.session.specs.declared.Session.{Session}
-use Rattle.session.specs.declared.Awaited.TheVariants.{Nothing}
 use Rattle.stream.specs.Table.{Thing, headed, replied, point}
-use Rattle.stream.specs.State.{meaning}
 use Rattle.stream.specs.Telling.{opening, opens}
 use Rattle.stream.specs.declared.Phase.TheVariants.{SeekInfo, SeekHealth, SeekScan}
-use Rattle.stream.specs.declared.Reader.{Reader}
 use Rattle.stream.proofs.inner.Seek.{seeks_info, seeks_health}
 use Rattle.turn.specs.Turns.{closed_by}
-use Rattle.record.specs.Record.{turn_of}
 use Rattle.ring.specs.Ring.{turns}
 use Rattle.ring.specs.Answers.{is_all_read}
 use Rattle.ring.specs.History.{last}
@@ -51,7 +45,7 @@ use Rattle.whole.proofs.Given.{given, work_noted}
 use Rattle.whole.proofs.Fit.{Near}
 use Rattle.whole.proofs.Recorded.{work_tells}
 use Rattle.whole.proofs.Answered.{descriptor_given, info_given, health_given, sends_read, scan_given}
-use Rattle.whole.proofs.Asked.{asked_session, asked_fresh, asked_serial, asked_awaits}
+use Rattle.whole.proofs.Asked.{asked_fresh, asked_serial, asked_awaits}
 use Rattle.whole.proofs.Shown.{stored_listed}
 
 info_long : (w : List ℕ) {i : Info} → info_of w ≡ gives i → length w ≡ 20

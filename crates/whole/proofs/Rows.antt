@@ -1,14 +1,14 @@
 -- A row of words, gathered until none is left, feeds its samples to the gatherer, and each turn that closes makes its record: `row_fed`.
 use Prim.Native.Nat.{ℕ, ◌+◌, ◌*◌, ◌<◌}
-use mathlib.Core.Path.{◌≡◌, refl, sym, ap, subst, ◌∙◌}
-use mathlib.Core.Bool.{Bool, true, false, not, ◌&&◌}
+use mathlib.Core.Path.{◌≡◌, refl, sym, ap, ◌∙◌}
+use mathlib.Core.Bool.{Bool, true, false, not}
 use mathlib.Core.Option.{Option, none, some}
-use mathlib.Core.List.{List, [], ◌∷◌, ◌++◌, flat_map, append-nil, append_assoc}
+use mathlib.Core.List.{List, [], ◌∷◌, ◌++◌, flat_map, append_assoc}
 use native.Mathlib.Omega.{arith}
 use borrow.Author.Tests.{not-false}
-use lib.ListN.{length, drop, length-append}
+use lib.ListN.{length, drop}
 use lib.Seq.{drop_at}
-use Rattle.paper.specs.Outcome.{Outcome, gives, refuses, refuse_if, if_given, mapped}
+use Rattle.paper.specs.Outcome.{gives, if_given, mapped}
 use Rattle.paper.specs.Writing.{over as overwritten}
 use Rattle.paper.proofs.Outcome.{gives_one, refuse_no, refuse_not}
 use Rattle.framing.proofs.Giving.{flat_map-append}
@@ -21,7 +21,6 @@ use Rattle.turn.specs.Gather.{Held, End, closes, next, taken, row_reads, samples
 use Rattle.turn.specs.Promises.{gathering, Gathers}
 use Rattle.turn.specs.Calls.{Fed}
 use Rattle.turn.specs.Calls as calls
-use Rattle.turn.specs.declared.gather.Gatherer.{Gatherer}
 use Rattle.turn.specs.declared.gather.Gathered.TheVariants as answer
 use Rattle.turn.proofs.Gathering.{taken_closed, taken_more}
 use Rattle.record.specs.Record.{record_of}

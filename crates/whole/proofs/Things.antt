@@ -1,11 +1,8 @@
 -- Things that a call gives: their samples, and the words of these.
-use Prim.Native.Nat.{ℕ, ◌+◌, ◌*◌, ◌≤◌}
-use mathlib.Core.Path.{◌≡◌, refl, sym, ap, ◌∙◌}
+use Prim.Native.Nat.{ℕ}
+use mathlib.Core.Path.{◌≡◌, refl, ap, ◌∙◌}
 use mathlib.Core.Bool.{Bool, true, false, ◌&&◌}
 use mathlib.Core.List.{List, [], ◌∷◌, ◌++◌, map, flat_map}
-use native.Mathlib.Omega.{arith}
-use lib.ListN.{length}
-use Rattle.framing.specs.Calls.{outputs}
 use Rattle.wire.specs.declared.sample.Sample.{Sample}
 use Rattle.wire.specs.Sample.{fit, words_of}
 use Rattle.paper.proofs.Cases.{both_hold}
