@@ -285,18 +285,18 @@ ring_list_determined p q = form_with p q (list_determined p.kept q.kept)
 -- ---- the recorder's core
 
 pub host_new_determined : {r s : BkHost} → HostMade r → HostMade s → r ≡ s
-host_new_determined p q = form_one p q (host.made-determined p.kept q.kept)
+host_new_determined p q = form_one p q (host.made_determined p.kept q.kept)
 
 pub host_send_determined : (h : BkHost) {time code : ℕ} {payload was is js : List ℕ} {r s : BkHostSent}
     → HostSends h time code payload was r is → HostSends h time code payload was s js → (r ≡ s) × (is ≡ js)
-host_send_determined h p q = form_with p q (host.asks-determined p.kept q.kept)
+host_send_determined h p q = form_with p q (host.asks_determined p.kept q.kept)
 
 pub host_read_determined : (h : BkHost) {input was is js : List ℕ} {r s : BkHeard} → HostReads h input was r is → HostReads h input was s js → (r ≡ s) × (is ≡ js)
-host_read_determined h p q = form_with p q (host.hears-determined p.kept q.kept)
+host_read_determined h p q = form_with p q (host.hears_determined p.kept q.kept)
 
 pub host_gather_determined : (h : BkHost) {row : List ℕ} {number : ℕ} {f c rec f₁ c₁ rec₁ f₂ c₂ rec₂ : List ℕ} {r s : BkTurned}
     → HostGathers h row number f c rec r f₁ c₁ rec₁ → HostGathers h row number f c rec s f₂ c₂ rec₂ → (r ≡ s) × (f₁ ≡ f₂) × (c₁ ≡ c₂) × (rec₁ ≡ rec₂)
-host_gather_determined h p q = let d = host.turns-determined p.kept q.kept in (form_one p q d.0, d.1, d.2, d.3)
+host_gather_determined h p q = let d = host.turns_determined p.kept q.kept in (form_one p q d.0, d.1, d.2, d.3)
 
 pub host_number_determined : {mem : List ℕ} {r s : BkNumber} → HostNumber mem r → HostNumber mem s → r ≡ s
-host_number_determined p q = form_one p q (host.number-determined p.kept q.kept)
+host_number_determined p q = form_one p q (host.number_determined p.kept q.kept)

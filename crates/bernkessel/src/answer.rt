@@ -5,12 +5,13 @@ ghost use Rattle.bernkessel.specs.Answers.{answer_out, written_out, flag_out};
 use paper::refusal::{Answer, Written};
 
 #[repr(C)]
-#[derive(Drop)]
+#[derive(Clone, Copy)]
 pub struct BkWritten {
     pub bytes: usize,
     pub refusal: u8,
 }
 
+#[tactic(auto, unfolding(crate::specs::Answers::answer_out))]
 pub(crate) fn answer_out(answer: Answer) -> u8
     ensures { result ≡ answer_out answer }
 {
@@ -20,6 +21,7 @@ pub(crate) fn answer_out(answer: Answer) -> u8
     }
 }
 
+#[tactic(auto, unfolding(crate::specs::Answers::written_out))]
 pub(crate) fn written_out(written: Written) -> BkWritten
     ensures { result ≡ written_out written }
 {
@@ -32,6 +34,7 @@ pub(crate) fn written_out(written: Written) -> BkWritten
     }
 }
 
+#[tactic(auto, unfolding(crate::specs::Answers::flag_out))]
 pub(crate) fn flag_out(t: bool) -> u8
     ensures { result ≡ flag_out t }
 {

@@ -10,7 +10,7 @@ use wire::request::Request;
 use wire::sample::{Sample, SampleRead};
 
 #[repr(C)]
-#[derive(Drop)]
+#[derive(Clone, Copy)]
 pub struct BkDescriptor {
     pub length: u32,
     pub mode: u8,
@@ -18,14 +18,14 @@ pub struct BkDescriptor {
 }
 
 #[repr(C)]
-#[derive(Drop)]
+#[derive(Clone, Copy)]
 pub struct BkDescriptorAnswer {
     pub descriptor: BkDescriptor,
     pub refusal: u8,
 }
 
 #[repr(C)]
-#[derive(Drop)]
+#[derive(Clone, Copy)]
 pub struct BkSampleAnswer {
     pub sample: BkSample,
     pub refusal: u8,
@@ -88,6 +88,7 @@ pub extern "C" fn bk_sample_read_words(angle: u16, distance: u16, mark: u16) -> 
     sample_read_out(Sample::read_words(angle, distance, mark))
 }
 
+#[tactic(auto, unfolding(crate::specs::Codec::descriptor_in))]
 fn descriptor_in(c: BkDescriptor) -> Descriptor
     ensures { result ≡ descriptor_in c }
 {
@@ -98,6 +99,7 @@ fn descriptor_in(c: BkDescriptor) -> Descriptor
     }
 }
 
+#[tactic(auto, unfolding(crate::specs::Codec::descriptor_out))]
 fn descriptor_out(read: DescriptorRead) -> BkDescriptorAnswer
     ensures { result ≡ descriptor_out read }
 {
@@ -121,6 +123,7 @@ fn descriptor_out(read: DescriptorRead) -> BkDescriptorAnswer
     }
 }
 
+#[tactic(auto, unfolding(crate::specs::Codec::sample_read_out, crate::specs::Sample::none))]
 fn sample_read_out(read: SampleRead) -> BkSampleAnswer
     ensures { result ≡ sample_read_out read }
 {

@@ -15,7 +15,7 @@ pub const STAGE_CODED: u8 = 2;
 pub const STAGE_SIZED: u8 = 3;
 
 #[repr(C)]
-#[derive(Drop)]
+#[derive(Clone, Copy)]
 pub struct BkStage {
     pub kind: u8,
     pub code: u8,
@@ -25,7 +25,7 @@ pub struct BkStage {
 }
 
 #[repr(C)]
-#[derive(Drop)]
+#[derive(Clone, Copy)]
 pub struct BkCollector {
     pub stage: BkStage,
     pub begun: u64,
@@ -34,7 +34,7 @@ pub struct BkCollector {
 
 // `complete` is 1 where the byte completed a packet, and otherwise 0.
 #[repr(C)]
-#[derive(Drop)]
+#[derive(Clone, Copy)]
 pub struct BkCollected {
     pub collector: BkCollector,
     pub complete: u8,
@@ -62,6 +62,7 @@ pub extern "C" fn bk_collector_byte(
     collected_out(collector, collector_in(collector).byte(time, b, payload))
 }
 
+#[tactic(auto, unfolding(crate::specs::Collector::stage_in))]
 fn stage_in(c: BkStage) -> Stage
     ensures { result ≡ stage_in c }
 {
@@ -79,6 +80,7 @@ fn stage_in(c: BkStage) -> Stage
     }
 }
 
+#[tactic(auto, unfolding(crate::specs::Collector::stage_out))]
 fn stage_out(stage: Stage) -> BkStage
     ensures { result ≡ stage_out stage }
 {
@@ -119,6 +121,7 @@ fn stage_out(stage: Stage) -> BkStage
     }
 }
 
+#[tactic(auto, unfolding(crate::specs::Collector::collector_in))]
 fn collector_in(c: BkCollector) -> Collector
     ensures { result ≡ collector_in c }
 {
@@ -130,6 +133,7 @@ fn collector_in(c: BkCollector) -> Collector
     }
 }
 
+#[tactic(auto, unfolding(crate::specs::Collector::collector_out))]
 fn collector_out(collector: Collector) -> BkCollector
     ensures { result ≡ collector_out collector }
 {
@@ -141,6 +145,7 @@ fn collector_out(collector: Collector) -> BkCollector
     }
 }
 
+#[tactic(auto, unfolding(crate::specs::Collector::collected_out, crate::specs::Collector::collected_by))]
 fn collected_out(was: BkCollector, collected: Collected) -> BkCollected
     ensures { result ≡ collected_out was collected }
 {

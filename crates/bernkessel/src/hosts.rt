@@ -13,7 +13,7 @@ use paper::refusal::Written;
 use wire::request::Request;
 
 #[repr(C)]
-#[derive(Drop)]
+#[derive(Clone, Copy)]
 pub struct BkHost {
     pub session: BkSession,
     pub reader: BkReader,
@@ -22,14 +22,14 @@ pub struct BkHost {
 }
 
 #[repr(C)]
-#[derive(Drop)]
+#[derive(Clone, Copy)]
 pub struct BkHostSent {
     pub host: BkHost,
     pub written: BkWritten,
 }
 
 #[repr(C)]
-#[derive(Drop)]
+#[derive(Clone, Copy)]
 pub struct BkHeard {
     pub host: BkHost,
     pub taken: usize,
@@ -40,7 +40,7 @@ pub struct BkHeard {
 
 // `turn` is the count of samples of the turn that closed, and 0 where none closed.
 #[repr(C)]
-#[derive(Drop)]
+#[derive(Clone, Copy)]
 pub struct BkTurned {
     pub host: BkHost,
     pub words: usize,
@@ -99,6 +99,7 @@ pub extern "C" fn bk_host_next_number(mem: &[u8]) -> BkNumber
     number_out(host::number::next_number(mem))
 }
 
+#[tactic(auto, unfolding(crate::specs::Host::host_in))]
 fn host_in(c: BkHost) -> Host
     ensures { result ≡ host_in c }
 {
@@ -114,6 +115,7 @@ fn host_in(c: BkHost) -> Host
     }
 }
 
+#[tactic(auto, unfolding(crate::specs::Host::host_out))]
 fn host_out(host: Host) -> BkHost
     ensures { result ≡ host_out host }
 {
@@ -129,6 +131,7 @@ fn host_out(host: Host) -> BkHost
     }
 }
 
+#[tactic(auto, unfolding(crate::specs::Host::asked_out, crate::specs::Host::asked_by))]
 fn asked_out(was: BkHost, asked: Asked) -> BkHostSent
     ensures { result ≡ asked_out was asked }
 {
@@ -149,6 +152,7 @@ fn asked_out(was: BkHost, asked: Asked) -> BkHostSent
     }
 }
 
+#[tactic(auto, unfolding(crate::specs::Host::heard_out))]
 fn heard_out(heard: Heard) -> BkHeard
     ensures { result ≡ heard_out heard }
 {
@@ -164,6 +168,7 @@ fn heard_out(heard: Heard) -> BkHeard
     }
 }
 
+#[tactic(auto, unfolding(crate::specs::Host::turned_out, crate::specs::Host::turned_by))]
 fn turned_out(was: BkHost, turned: Turned) -> BkTurned
     ensures { result ≡ turned_out was turned }
 {

@@ -1,4 +1,6 @@
 // The C interface: each function calls the library's, and hands over the C form of an answer that the library's promise allows.
+#![tactic(auto)]
+
 mod answer;
 pub mod codec;
 pub mod collector;

@@ -21,7 +21,7 @@ pub const MODEL_PROTECTION_STOP: u8 = 3;
 
 // The motor is stable, and the status set is 1, where their bytes are not 0.
 #[repr(C)]
-#[derive(Drop)]
+#[derive(Clone, Copy)]
 pub struct BkModel {
     pub info: BkInfo,
     pub error: u16,
@@ -31,14 +31,14 @@ pub struct BkModel {
 }
 
 #[repr(C)]
-#[derive(Drop)]
+#[derive(Clone, Copy)]
 pub struct BkAsked {
     pub model: BkModel,
     pub written: BkWritten,
 }
 
 #[repr(C)]
-#[derive(Drop)]
+#[derive(Clone, Copy)]
 pub struct BkHealthSet {
     pub model: BkModel,
     pub refusal: u8,
@@ -72,6 +72,7 @@ pub extern "C" fn bk_model_fault(model: BkModel) -> BkModel
     model_out(model_in(model).fault())
 }
 
+#[tactic(auto, unfolding(crate::specs::Answers::flag_in))]
 #[unsafe(no_mangle)]
 pub extern "C" fn bk_model_set_motor(model: BkModel, stable: u8) -> BkModel
     ensures { ModelMotor model stable result }
@@ -86,6 +87,7 @@ pub extern "C" fn bk_model_set_error(model: BkModel, error: u16) -> BkModel
     model_out(model_in(model).set_error(error))
 }
 
+#[tactic(auto, unfolding(crate::specs::Model::model_in))]
 #[unsafe(no_mangle)]
 pub extern "C" fn bk_model_set_status(model: BkModel, status: u8) -> BkHealthSet
     ensures { ModelStatus model status result }
@@ -100,6 +102,7 @@ pub extern "C" fn bk_model_set_health(model: BkModel, status: u8, error: u16) ->
     health_set_out(model, model_in(model).set_health(status, error))
 }
 
+#[tactic(auto, unfolding(crate::specs::Model::state_in, crate::specs::Model::state_out))]
 fn state_in(b: u8) -> State
     ensures { result ≡ state_in b }
 {
@@ -111,6 +114,7 @@ fn state_in(b: u8) -> State
     }
 }
 
+#[tactic(auto, unfolding(crate::specs::Model::state_out))]
 fn state_out(state: State) -> u8
     ensures { result ≡ state_out state }
 {
@@ -122,6 +126,7 @@ fn state_out(state: State) -> u8
     }
 }
 
+#[tactic(auto, unfolding(crate::specs::Model::model_in, crate::specs::Answers::flag_in))]
 fn model_in(c: BkModel) -> Model
     ensures { result ≡ model_in c }
 {
@@ -135,6 +140,7 @@ fn model_in(c: BkModel) -> Model
     }
 }
 
+#[tactic(auto, unfolding(crate::specs::Model::model_out))]
 fn model_out(model: Model) -> BkModel
     ensures { result ≡ model_out model }
 {
@@ -149,6 +155,7 @@ fn model_out(model: Model) -> BkModel
     }
 }
 
+#[tactic(auto, unfolding(crate::specs::Model::asked_out, crate::specs::Model::asked_by))]
 fn asked_out(was: BkModel, asked: Asked) -> BkAsked
     ensures { result ≡ asked_out was asked }
 {
@@ -169,6 +176,7 @@ fn asked_out(was: BkModel, asked: Asked) -> BkAsked
     }
 }
 
+#[tactic(auto, unfolding(crate::specs::Model::health_set_out, crate::specs::Model::health_set_by))]
 fn health_set_out(was: BkModel, set: HealthSet) -> BkHealthSet
     ensures { result ≡ health_set_out was set }
 {

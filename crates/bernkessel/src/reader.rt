@@ -35,7 +35,7 @@ pub const REPLY: u8 = 3;
 pub const BAD_HEALTH: u8 = 4;
 
 #[repr(C)]
-#[derive(Drop)]
+#[derive(Clone, Copy)]
 pub struct BkReader {
     pub phase: u8,
     pub n: u8,
@@ -44,14 +44,14 @@ pub struct BkReader {
 }
 
 #[repr(C)]
-#[derive(Drop)]
+#[derive(Clone, Copy)]
 pub struct BkTold {
     pub reader: BkReader,
     pub refusal: u8,
 }
 
 #[repr(C)]
-#[derive(Drop)]
+#[derive(Clone, Copy)]
 pub struct BkReading {
     pub reader: BkReader,
     pub taken: usize,
@@ -81,6 +81,7 @@ pub extern "C" fn bk_reader_read(reader: BkReader, input: &[u8], words: &mut [u1
     reading_out(reader_in(reader).read(input, words))
 }
 
+#[tactic(auto, unfolding(crate::specs::Reader::phase_in, crate::specs::Reader::phase_out))]
 fn phase_in(b: u8) -> Phase
     ensures { result ≡ phase_in b }
 {
@@ -95,6 +96,7 @@ fn phase_in(b: u8) -> Phase
     }
 }
 
+#[tactic(auto, unfolding(crate::specs::Reader::phase_out))]
 fn phase_out(phase: Phase) -> u8
     ensures { result ≡ phase_out phase }
 {
@@ -109,6 +111,7 @@ fn phase_out(phase: Phase) -> u8
     }
 }
 
+#[tactic(auto, unfolding(stream::specs::Stops::stop_number))]
 pub(crate) fn stop_out(stop: Stop) -> u8
     ensures { result ≡ stop_number stop }
 {
@@ -121,6 +124,7 @@ pub(crate) fn stop_out(stop: Stop) -> u8
     }
 }
 
+#[tactic(auto, unfolding(crate::specs::Reader::reader_in))]
 pub(crate) fn reader_in(c: BkReader) -> Reader
     ensures { result ≡ reader_in c }
 {
@@ -133,6 +137,7 @@ pub(crate) fn reader_in(c: BkReader) -> Reader
     }
 }
 
+#[tactic(auto, unfolding(crate::specs::Reader::reader_out))]
 pub(crate) fn reader_out(reader: Reader) -> BkReader
     ensures { result ≡ reader_out reader }
 {
@@ -146,6 +151,7 @@ pub(crate) fn reader_out(reader: Reader) -> BkReader
     }
 }
 
+#[tactic(auto, unfolding(crate::specs::Reader::told_out, crate::specs::Reader::told_by))]
 fn told_out(was: BkReader, told: Told) -> BkTold
     ensures { result ≡ told_out was told }
 {
@@ -165,6 +171,7 @@ fn told_out(was: BkReader, told: Told) -> BkTold
     }
 }
 
+#[tactic(auto, unfolding(crate::specs::Reader::reading_out))]
 fn reading_out(reading: Reading) -> BkReading
     ensures { result ≡ reading_out reading }
 {

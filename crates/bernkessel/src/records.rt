@@ -13,21 +13,21 @@ use record::read::{CellRead, CountRead, NumberRead};
 use record::{read, write};
 
 #[repr(C)]
-#[derive(Drop)]
+#[derive(Clone, Copy)]
 pub struct BkNumber {
     pub number: u32,
     pub refusal: u8,
 }
 
 #[repr(C)]
-#[derive(Drop)]
+#[derive(Clone, Copy)]
 pub struct BkCount {
     pub count: u16,
     pub refusal: u8,
 }
 
 #[repr(C)]
-#[derive(Drop)]
+#[derive(Clone, Copy)]
 pub struct BkCell {
     pub distance: BkDistanceQ2,
     pub refusal: u8,
@@ -90,6 +90,7 @@ fn write_serial(rec: &[u8], out: &mut [u8]) -> Written
     paper::write::write(read::serial(rec), out)
 }
 
+#[tactic(auto, unfolding(crate::specs::Record::number_out))]
 pub(crate) fn number_out(number: NumberRead) -> BkNumber
     ensures { result ≡ number_out number }
 {
@@ -102,6 +103,7 @@ pub(crate) fn number_out(number: NumberRead) -> BkNumber
     }
 }
 
+#[tactic(auto, unfolding(crate::specs::Record::count_out))]
 fn count_out(count: CountRead) -> BkCount
     ensures { result ≡ count_out count }
 {
@@ -114,6 +116,7 @@ fn count_out(count: CountRead) -> BkCount
     }
 }
 
+#[tactic(auto, unfolding(crate::specs::Record::cell_out))]
 fn cell_out(cell: CellRead) -> BkCell
     ensures { result ≡ cell_out cell }
 {

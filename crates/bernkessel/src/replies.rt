@@ -7,7 +7,7 @@ use crate::answer::{BkWritten, answer_out, written_out};
 use wire::reply::{Health, HealthRead, Info, InfoRead};
 
 #[repr(C)]
-#[derive(Drop)]
+#[derive(Clone, Copy)]
 pub struct BkInfo {
     pub model: u8,
     pub minor: u8,
@@ -17,21 +17,21 @@ pub struct BkInfo {
 }
 
 #[repr(C)]
-#[derive(Drop)]
+#[derive(Clone, Copy)]
 pub struct BkInfoAnswer {
     pub info: BkInfo,
     pub refusal: u8,
 }
 
 #[repr(C)]
-#[derive(Drop)]
+#[derive(Clone, Copy)]
 pub struct BkHealth {
     pub error: u16,
     pub status: u8,
 }
 
 #[repr(C)]
-#[derive(Drop)]
+#[derive(Clone, Copy)]
 pub struct BkHealthAnswer {
     pub health: BkHealth,
     pub refusal: u8,
@@ -65,6 +65,7 @@ pub extern "C" fn bk_health_read(bytes: &[u8]) -> BkHealthAnswer
     health_read_out(Health::read(bytes))
 }
 
+#[tactic(auto, unfolding(crate::specs::Reply::info_in))]
 pub(crate) fn info_in(c: BkInfo) -> Info
     ensures { result ≡ info_in c }
 {
@@ -78,6 +79,7 @@ pub(crate) fn info_in(c: BkInfo) -> Info
     }
 }
 
+#[tactic(auto, unfolding(crate::specs::Reply::info_out))]
 pub(crate) fn info_out(info: Info) -> BkInfo
     ensures { result ≡ info_out info }
 {
@@ -91,6 +93,7 @@ pub(crate) fn info_out(info: Info) -> BkInfo
     }
 }
 
+#[tactic(auto, unfolding(crate::specs::Reply::info_read_out))]
 fn info_read_out(read: InfoRead) -> BkInfoAnswer
     ensures { result ≡ info_read_out read }
 {
@@ -102,6 +105,7 @@ fn info_read_out(read: InfoRead) -> BkInfoAnswer
     }
 }
 
+#[tactic(auto, unfolding(crate::specs::Reply::health_in))]
 fn health_in(c: BkHealth) -> Health
     ensures { result ≡ health_in c }
 {
@@ -111,6 +115,7 @@ fn health_in(c: BkHealth) -> Health
     }
 }
 
+#[tactic(auto, unfolding(crate::specs::Reply::health_read_out))]
 fn health_read_out(read: HealthRead) -> BkHealthAnswer
     ensures { result ≡ health_read_out read }
 {

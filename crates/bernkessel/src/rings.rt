@@ -7,14 +7,14 @@ use crate::answer::{BkWritten, answer_out, written_out};
 use ring::answer::Held;
 
 #[repr(C)]
-#[derive(Drop)]
+#[derive(Clone, Copy)]
 pub struct BkHeld {
     pub turns: usize,
     pub refusal: u8,
 }
 
 #[repr(C)]
-#[derive(Drop)]
+#[derive(Clone, Copy)]
 pub struct BkPart {
     pub offset: usize,
     pub length: usize,
@@ -75,6 +75,7 @@ pub extern "C" fn bk_ring_list(mem: &[u8], out: &mut [u8]) -> BkWritten
     written_out(listing::list(mem, out))
 }
 
+#[tactic(auto, unfolding(crate::specs::Ring::held_out))]
 fn held_out(held: Held) -> BkHeld
     ensures { result ≡ held_out held }
 {

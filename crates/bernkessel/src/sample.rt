@@ -8,21 +8,21 @@ use wire::sample::Sample;
 
 // In 64ths of a degree.
 #[repr(C)]
-#[derive(Drop)]
+#[derive(Clone, Copy)]
 pub struct BkAngleQ6 {
     pub q6: u16,
 }
 
 // In quarters of a millimetre.
 #[repr(C)]
-#[derive(Drop)]
+#[derive(Clone, Copy)]
 pub struct BkDistanceQ2 {
     pub q2: u16,
 }
 
 // S is 0 where the byte `start` is 0, and otherwise 1.
 #[repr(C)]
-#[derive(Drop)]
+#[derive(Clone, Copy)]
 pub struct BkSample {
     pub start: u8,
     pub quality: u8,
@@ -38,6 +38,7 @@ pub const NONE: BkSample = BkSample {
     distance: BkDistanceQ2 { q2: 0 },
 };
 
+#[tactic(auto, unfolding(crate::specs::Sample::sample_in, crate::specs::Answers::flag_in))]
 pub(crate) fn sample_in(c: BkSample) -> Sample
     ensures { result ≡ sample_in c }
 {
@@ -49,6 +50,7 @@ pub(crate) fn sample_in(c: BkSample) -> Sample
     }
 }
 
+#[tactic(auto, unfolding(crate::specs::Sample::sample_out))]
 pub(crate) fn sample_out(m: Sample) -> BkSample
     ensures { result ≡ sample_out m }
 {

@@ -10,7 +10,7 @@ use wire::request::Request;
 
 // A single reply is awaited where the byte `awaited` is not 0.
 #[repr(C)]
-#[derive(Drop)]
+#[derive(Clone, Copy)]
 pub struct BkSession {
     pub last: u64,
     pub wait: u64,
@@ -18,7 +18,7 @@ pub struct BkSession {
 }
 
 #[repr(C)]
-#[derive(Drop)]
+#[derive(Clone, Copy)]
 pub struct BkSent {
     pub session: BkSession,
     pub written: BkWritten,
@@ -54,6 +54,7 @@ pub extern "C" fn bk_session_reply_ended(session: BkSession) -> BkSession
     session_out(session_in(session).reply_ended())
 }
 
+#[tactic(auto, unfolding(crate::specs::Session::awaited_in))]
 fn awaited_in(b: u8) -> Awaited
     ensures { result ≡ awaited_in b }
 {
@@ -63,6 +64,7 @@ fn awaited_in(b: u8) -> Awaited
     Awaited::Reply
 }
 
+#[tactic(auto, unfolding(crate::specs::Session::awaited_out))]
 fn awaited_out(awaited: Awaited) -> u8
     ensures { result ≡ awaited_out awaited }
 {
@@ -72,6 +74,7 @@ fn awaited_out(awaited: Awaited) -> u8
     }
 }
 
+#[tactic(auto, unfolding(crate::specs::Session::session_in))]
 pub(crate) fn session_in(c: BkSession) -> Session
     ensures { result ≡ session_in c }
 {
@@ -82,6 +85,7 @@ pub(crate) fn session_in(c: BkSession) -> Session
     }
 }
 
+#[tactic(auto, unfolding(crate::specs::Session::session_out))]
 pub(crate) fn session_out(session: Session) -> BkSession
     ensures { result ≡ session_out session }
 {
@@ -93,6 +97,7 @@ pub(crate) fn session_out(session: Session) -> BkSession
     }
 }
 
+#[tactic(auto, unfolding(crate::specs::Session::sent_out, crate::specs::Session::sent_by))]
 fn sent_out(was: BkSession, sent: Sent) -> BkSent
     ensures { result ≡ sent_out was sent }
 {

@@ -7,14 +7,14 @@ use crate::sample::{BkSample, sample_in};
 use turn::gather::{Gathered, Gatherer, RowGathered};
 
 #[repr(C)]
-#[derive(Drop)]
+#[derive(Clone, Copy)]
 pub struct BkGatherer {
     pub count: u16,
 }
 
 // `turn` is the count of samples of the turn that closed, and 0 where none closed.
 #[repr(C)]
-#[derive(Drop)]
+#[derive(Clone, Copy)]
 pub struct BkGathered {
     pub gatherer: BkGatherer,
     pub turn: u16,
@@ -22,7 +22,7 @@ pub struct BkGathered {
 }
 
 #[repr(C)]
-#[derive(Drop)]
+#[derive(Clone, Copy)]
 pub struct BkRowGathered {
     pub gathered: BkGathered,
     pub words: usize,
@@ -57,6 +57,7 @@ pub extern "C" fn bk_gatherer_sample(
     )
 }
 
+#[tactic(auto, unfolding(crate::specs::Turn::row_out))]
 #[unsafe(no_mangle)]
 pub extern "C" fn bk_gatherer_row(
     gatherer: BkGatherer,
@@ -74,12 +75,14 @@ pub extern "C" fn bk_gatherer_row(
     }
 }
 
+#[tactic(auto, unfolding(crate::specs::Turn::gatherer_in))]
 pub(crate) fn gatherer_in(c: BkGatherer) -> Gatherer
     ensures { result ≡ gatherer_in c }
 {
     Gatherer { count: c.count }
 }
 
+#[tactic(auto, unfolding(crate::specs::Turn::gatherer_out))]
 pub(crate) fn gatherer_out(gatherer: Gatherer) -> BkGatherer
     ensures { result ≡ gatherer_out gatherer }
 {
@@ -88,6 +91,7 @@ pub(crate) fn gatherer_out(gatherer: Gatherer) -> BkGatherer
     }
 }
 
+#[tactic(auto, unfolding(crate::specs::Turn::gathered_out))]
 fn gathered_out(was: BkGatherer, gathered: Gathered) -> BkGathered
     ensures { result ≡ gathered_out was gathered }
 {
