@@ -1,6 +1,8 @@
 // What the program is started with.
 ghost use Rattle.std.specs.Prelude.{◌≤◌};
 
+use program::word::arg_count;
+use std::rt::Env;
 use text::digit_value;
 
 // Whether a serial reads, and its bytes.
@@ -44,15 +46,18 @@ fn serial_in(text: &[u8; 36]) -> Serial {
 }
 
 // Argument i as a serial: zeros where it is left out.
-pub fn serial_of(i: usize) -> Serial {
-    if os::arg_count() <= i {
+pub fn serial_of(rt: &HostRuntime, i: usize) -> Serial {
+    if arg_count(rt) <= i {
         return Serial {
             reads: true,
             bytes: [0u8; 16],
         };
     }
     let mut text = [0u8; 36];
-    let n = os::arg(i, &mut text);
+    let n = match rt.arg(i, &mut text) {
+        Ok(n) => n,
+        Err(_) => 0,
+    };
     if n != 32 {
         return Serial {
             reads: false,

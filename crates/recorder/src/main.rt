@@ -1,50 +1,75 @@
 // Adds every closed turn of the scan on standard input to the ring in a file: recorder [--verbose] RING [SERIAL]. A missing file becomes an empty ring.
+#![tactic(auto)]
+
 mod argument;
 mod file;
 mod scan;
 mod show;
 mod store;
 
-use libc::{STDERR_FILENO, STDOUT_FILENO};
 use paper::refusal::Answer;
 use program::input::{is_readable, keep_standard, read_whole};
-use program::output::{failed, print_number, tell};
-use program::word::{Word, print_version, said};
+use program::output::{STDERR, failed, print, print_number, tell};
+use program::word::{Word, arg_count, print_version, said, too_long};
+use std::env::FillError;
+use std::fs::File;
+use std::io::Error;
+use std::os::fd::AsRawFd;
+use std::rt::Env;
 
-fn usage(fd: i32) -> bool {
-    io::write_all(
-        fd,
-        b"usage: recorder [--verbose] RING [SERIAL]: adds the turns of the scan on standard input to the ring in file RING; SERIAL is 32 hex digits\n",
-    )
+const USAGE: &[u8] =
+    b"usage: recorder [--verbose] RING [SERIAL]: adds the turns of the scan on standard input to the ring in file RING; SERIAL is 32 hex digits\n";
+
+// How the program is started, where it was not started so.
+fn usage() {
+    io::write_all(STDERR, USAGE);
 }
 
-// The file holds these bytes. What is no ring, or has a turn that does not read, stays as it is.
-fn add_to(fd: i32, path: &[u8], image: &mut [u8], serial: [u8; 16], verbose: bool) {
+// Says why a turn was not taken: the file's reason, or that the host refused it.
+fn say_not_taken(path: &[u8], why: Option<Error>) {
+    match why {
+        Some(why) => failed(b"recorder", path, why),
+        None => tell(STDERR, b"recorder", path, b"a turn is refused"),
+    }
+}
+
+// The file holds these bytes. What is no ring, or has a turn that does not read, stays as it is. A recording whose reader has left says no more.
+fn add_to(
+    rt: &HostRuntime,
+    file: &File,
+    path: &[u8],
+    image: &mut [u8],
+    serial: [u8; 16],
+    verbose: bool,
+) {
     let a = ring::all_read(image);
     if let Answer::Refused(r) = a {
-        print_number(b"recorder", b"refused", r.number() as u64);
+        print_number(rt, b"recorder", b"refused", r.number() as u64);
         return;
     }
-    if !ringfile::make_sure(b"recorder", path, fd, store::head(image)) {
+    if !ringfile::make_sure(rt, b"recorder", path, file, store::head(image)) {
         return;
     }
     let mut was = io::buffer();
-    let n = ringfile::real_path(fd, &mut was);
-    let r = scan::keep_all(fd, image, serial, verbose);
-    if !r.sound {
-        failed(b"recorder", path);
+    let n = ringfile::real_path(rt, file.as_raw_fd(), &mut was);
+    let r = scan::keep_all(rt, file, image, serial, verbose);
+    if r.left {
+        return;
     }
-    say_moved(fd, path, &was[..n]);
-    print_number(b"recorder", b"kept", r.kept);
+    if !r.sound {
+        say_not_taken(path, r.why);
+    }
+    say_moved(rt, file, path, &was[..n]);
+    print_number(rt, b"recorder", b"kept", r.kept);
 }
 
 // Says where the file has another name by now than the one it had.
-fn say_moved(fd: i32, path: &[u8], was: &[u8]) {
+fn say_moved(rt: &HostRuntime, file: &File, path: &[u8], was: &[u8]) {
     let mut is = io::buffer();
-    let n = ringfile::real_path(fd, &mut is);
+    let n = ringfile::real_path(rt, file.as_raw_fd(), &mut is);
     if !check::same(&is[..n], was) {
         tell(
-            STDERR_FILENO,
+            STDERR,
             b"recorder",
             path,
             b"it was removed or renamed meanwhile, and the turns are in the file that it was",
@@ -52,72 +77,67 @@ fn say_moved(fd: i32, path: &[u8], was: &[u8]) {
     }
 }
 
-fn add(fd: i32, path: &[u8], serial: [u8; 16], verbose: bool) {
+fn add(rt: &HostRuntime, file: &File, path: &[u8], serial: [u8; 16], verbose: bool) {
     let mut image = [0u8; ringfile::LONGER];
-    let got = read_whole(fd, &mut image);
+    let mut from = file;
+    let got = read_whole(&mut from, &mut image);
     let n = got.bytes;
-    if !got.sound {
-        failed(b"recorder", path);
+    if let Some(why) = got.why {
+        failed(b"recorder", path, why);
         return;
     }
-    add_to(fd, path, &mut image[..n], serial, verbose);
+    add_to(rt, file, path, &mut image[..n], serial, verbose);
 }
 
 // The ring that a path names.
-fn record_in(path: &[u8], serial: [u8; 16], verbose: bool) {
-    if !is_readable(b"recorder") {
+fn record_in(rt: &HostRuntime, path: &[u8], serial: [u8; 16], verbose: bool) {
+    if !is_readable(rt, b"recorder") {
         return;
     }
-    let fd = ringfile::open_or_make(b"recorder", path);
-    if fd < 0 {
-        return;
+    if let Some(file) = ringfile::open_or_make(rt, b"recorder", path) {
+        add(rt, &file, path, serial, verbose);
     }
-    add(fd, path, serial, verbose);
-    libc::close(fd);
 }
 
 // The ring and the serial by the numbers of their words, and how many words there may be. No message goes before the look at where messages go.
-fn record_asked(ring: usize, serial: usize, most: usize, verbose: bool) {
+fn record_asked(rt: &HostRuntime, ring: usize, serial: usize, most: usize, verbose: bool) {
     let mut path = io::buffer();
-    let n = os::arg(ring, &mut path);
-    if os::errno() == libc::ENAMETOOLONG {
-        failed(b"recorder", b"RING");
+    let n = match rt.arg(ring, &mut path) {
+        Ok(n) => n,
+        Err(FillError::NotPresent) => 0,
+        Err(FillError::TooLong) => {
+            failed(b"recorder", b"RING", too_long());
+            return;
+        }
+    };
+    if !ringfile::is_no_output(rt, b"recorder", &path[..n]) {
         return;
     }
-    if !ringfile::is_no_output(b"recorder", &path[..n]) {
-        return;
-    }
-    let given = argument::serial_of(serial);
+    let given = argument::serial_of(rt, serial);
     let bytes = given.bytes;
-    if n == 0 || !given.reads || os::arg_count() > most {
-        usage(STDERR_FILENO);
+    if n == 0 || !given.reads || arg_count(rt) > most {
+        usage();
         return;
     }
-    record_in(&path[..n], bytes, verbose);
+    record_in(rt, &path[..n], bytes, verbose);
 }
 
-fn main() {
-    if !keep_standard(b"recorder") {
+fn main(rt: HostRuntime) {
+    if !keep_standard(&rt, b"recorder") {
         return;
     }
-    match said(1) {
+    match said(&rt, 1) {
         Word::Help => {
-            if !usage(STDOUT_FILENO) {
-                failed(b"recorder", b"standard output");
-            }
+            print(&rt, b"recorder", USAGE);
         }
         Word::Version => {
-            print_version(b"recorder");
+            print_version(&rt, b"recorder");
         }
-        Word::Verbose => match said(2) {
-            Word::Plain => record_asked(2, 3, 4, true),
-            _ => {
-                usage(STDERR_FILENO);
-            }
+        Word::Verbose => match said(&rt, 2) {
+            Word::Plain => record_asked(&rt, 2, 3, 4, true),
+            _ => usage(),
         },
-        Word::Plain => record_asked(1, 2, 3, false),
-        Word::Unknown => {
-            usage(STDERR_FILENO);
-        }
+        Word::Plain => record_asked(&rt, 1, 2, 3, false),
+        Word::Unknown => usage(),
     }
 }

@@ -8,19 +8,24 @@ use host::number::next_number;
 use host::{Host, Told};
 use program::input::receive;
 use record::read::NumberRead;
+use std::fs::File;
+use std::io::Error;
 use wire::request::Request;
 
 const PIECE: usize = 4096;
 
 const ROOM: usize = 3072;
 
-// The host, how many turns are kept, whether the file took them all, and whether each is told.
+// The host, how many turns are kept, whether the file took them all, and where it did not, why. Whether each is told, and whether the reader of what is told
+// has left, which ends the recording too.
 #[derive(Drop)]
 pub struct Recording {
     host: Host,
     pub kept: u64,
     pub sound: bool,
+    pub why: Option<Error>,
     verbose: bool,
+    pub left: bool,
 }
 
 // A recording after a call, and how much of what it was handed the call took.
@@ -56,46 +61,71 @@ fn number_in(image: &[u8]) -> u32 {
     }
 }
 
-// The same recording with one turn more, whose record this is, where it was kept.
-fn counted(r: Recording, k: Kept, rec: &[u8; 754]) -> Recording {
-    let host = r.host;
-    if k.kept {
-        if k.synced {
-            show::turn(r.verbose, rec);
-        }
-        return Recording {
-            host,
-            kept: std::num::wrapping_add_u64(r.kept, 1),
-            sound: k.synced,
-            verbose: r.verbose,
-        };
-    }
+// Whether nothing more is stored.
+fn is_over(r: &Recording) -> bool {
+    !r.sound || r.left
+}
+
+// A recording that goes on with a host.
+fn with_host(r: Recording, host: Host) -> Recording {
     Recording {
         host,
         kept: r.kept,
-        sound: false,
+        sound: true,
+        why: None,
         verbose: r.verbose,
+        left: false,
+    }
+}
+
+// A recording that ends with its last turn not taken.
+fn not_taken(r: Recording, why: Option<Error>) -> Recording {
+    Recording {
+        host: r.host,
+        kept: r.kept,
+        sound: false,
+        why,
+        verbose: r.verbose,
+        left: false,
+    }
+}
+
+// The same recording with one turn more, whose record this is, where it was kept.
+fn counted(rt: &HostRuntime, r: Recording, k: Kept, rec: &[u8; 754]) -> Recording {
+    if !k.kept {
+        return not_taken(r, k.why);
+    }
+    let mut heard = true;
+    if k.synced {
+        heard = show::turn(rt, r.verbose, rec);
+    }
+    Recording {
+        host: r.host,
+        kept: r.kept.wrapping_add(1),
+        sound: k.synced,
+        why: k.why,
+        verbose: r.verbose,
+        left: !heard,
     }
 }
 
 // What a row led to: a turn that closed goes to the ring. Where the file does not take it, nothing more is stored.
-fn noted(fd: i32, r: Recording, answer: Told, image: &mut [u8], rec: &[u8; 754]) -> Recording {
+fn noted(
+    rt: &HostRuntime,
+    file: &File,
+    r: Recording,
+    answer: Told,
+    image: &mut [u8],
+    rec: &[u8; 754],
+) -> Recording {
     match answer {
         Told::Taken => r,
         Told::Closed(_) => {
             let bytes: &[u8] = rec;
-            let k = keep(fd, image, bytes);
-            counted(r, k, rec)
+            let k = keep(file, image, bytes);
+            counted(rt, r, k, rec)
         }
-        Told::Refused(_) => {
-            let host = r.host;
-            Recording {
-                host,
-                kept: r.kept,
-                sound: false,
-                verbose: r.verbose,
-            }
-        }
+        Told::Refused(_) => not_taken(r, None),
     }
 }
 
@@ -114,7 +144,8 @@ fn front(n: usize, words: &[u16]) -> usize
 
 // A row of the reader's words, from a place on, up to and including a sample that closes a turn, which is kept.
 fn gather(
-    fd: i32,
+    rt: &HostRuntime,
+    file: &File,
     r: Recording,
     row: &[u16],
     at: usize,
@@ -132,19 +163,15 @@ fn gather(
     let taken = least(t.words, row.len() - at);
     let after = t.host;
     let answer = t.answer;
-    let begun = Recording {
-        host: after,
-        kept: r.kept,
-        sound: true,
-        verbose: r.verbose,
-    };
-    let recording = noted(fd, begun, answer, image, &rec);
+    let begun = with_host(r, after);
+    let recording = noted(rt, file, begun, answer, image, &rec);
     Step { recording, taken }
 }
 
 // The whole row.
 fn take_row(
-    fd: i32,
+    rt: &HostRuntime,
+    file: &File,
     r: Recording,
     row: &[u16],
     image: &mut [u8],
@@ -154,9 +181,9 @@ fn take_row(
     let mut next = r;
     let mut at: usize = 0;
     while at < row.len() {
-        let s = gather(fd, next, row, at, image, filling, closed);
+        let s = gather(rt, file, next, row, at, image, filling, closed);
         next = s.recording;
-        if !next.sound {
+        if is_over(&next) {
             return next;
         }
         if s.taken == 0 {
@@ -169,7 +196,8 @@ fn take_row(
 
 // One call of the reader with the input from a place on, and the turns that it closes.
 fn hear(
-    fd: i32,
+    rt: &HostRuntime,
+    file: &File,
     r: Recording,
     input: &[u8],
     at: usize,
@@ -186,19 +214,15 @@ fn hear(
     let taken = least(heard.taken, input.len() - at);
     let n = front(heard.words, words);
     let after = heard.host;
-    let begun = Recording {
-        host: after,
-        kept: r.kept,
-        sound: true,
-        verbose: r.verbose,
-    };
-    let recording = take_row(fd, begun, &words[..n], image, filling, closed);
+    let begun = with_host(r, after);
+    let recording = take_row(rt, file, begun, &words[..n], image, filling, closed);
     Step { recording, taken }
 }
 
 // A piece of the input.
 fn take_piece(
-    fd: i32,
+    rt: &HostRuntime,
+    file: &File,
     r: Recording,
     input: &[u8],
     words: &mut [u16],
@@ -209,9 +233,9 @@ fn take_piece(
     let mut next = r;
     let mut at: usize = 0;
     while at < input.len() {
-        let s = hear(fd, next, input, at, words, image, filling, closed);
+        let s = hear(rt, file, next, input, at, words, image, filling, closed);
         next = s.recording;
-        if !next.sound {
+        if is_over(&next) {
             return next;
         }
         if s.taken == 0 {
@@ -224,7 +248,8 @@ fn take_piece(
 
 // The next piece of the input.
 fn take_next(
-    fd: i32,
+    rt: &HostRuntime,
+    file: &File,
     r: Recording,
     piece: &mut [u8],
     words: &mut [u16],
@@ -232,15 +257,16 @@ fn take_next(
     filling: &mut [u16; 360],
     closed: &mut [u16; 360],
 ) -> Step {
-    let taken = receive(b"recorder", piece);
-    let recording = take_piece(fd, r, &piece[..taken], words, image, filling, closed);
+    let taken = receive(rt, b"recorder", piece);
+    let recording = take_piece(rt, file, r, &piece[..taken], words, image, filling, closed);
     Step { recording, taken }
 }
 
 // The whole input. A proved loop has to end, and nothing says that an input does: so it counts its turns down, from a number that no run
 // uses up.
 fn take_all(
-    fd: i32,
+    rt: &HostRuntime,
+    file: &File,
     r: Recording,
     piece: &mut [u8],
     words: &mut [u16],
@@ -251,12 +277,12 @@ fn take_all(
     let mut next = r;
     let mut turns = u64::MAX;
     while turns > 0 {
-        let s = take_next(fd, next, piece, words, image, filling, closed);
+        let s = take_next(rt, file, next, piece, words, image, filling, closed);
         next = s.recording;
         if s.taken == 0 {
             return next;
         }
-        if !next.sound {
+        if is_over(&next) {
             return next;
         }
         turns -= 1;
@@ -264,8 +290,14 @@ fn take_all(
     next
 }
 
-// Keeps every closed turn of the scan on standard input, and answers how many. Where the file does not take one, the system's number of the error is why.
-pub fn keep_all(fd: i32, image: &mut [u8], serial: [u8; 16], verbose: bool) -> Recording {
+// Keeps every closed turn of the scan on standard input, and answers how many.
+pub fn keep_all(
+    rt: &HostRuntime,
+    file: &File,
+    image: &mut [u8],
+    serial: [u8; 16],
+    verbose: bool,
+) -> Recording {
     let mut piece = [0u8; PIECE];
     let mut words = [0u16; ROOM];
     let mut filling = [0u16; 360];
@@ -275,10 +307,13 @@ pub fn keep_all(fd: i32, image: &mut [u8], serial: [u8; 16], verbose: bool) -> R
         host,
         kept: 0,
         sound: true,
+        why: None,
         verbose,
+        left: false,
     };
     take_all(
-        fd,
+        rt,
+        file,
         begun,
         &mut piece,
         &mut words,

@@ -5,7 +5,7 @@ ghost use Rattle.record.specs.Record.{turn_of};
 ghost use Rattle.listing.specs.Text.{line_by};
 
 use paper::refusal::Written;
-use program::output::print;
+use program::output::{is_left, try_print};
 
 // The line of a record, as the listing has it, at the front of a buffer that has room for it, and its length.
 fn line(rec: &[u8], text: &mut [u8]) -> usize
@@ -19,11 +19,14 @@ fn line(rec: &[u8], text: &mut [u8]) -> usize
     }
 }
 
-// The line of a turn that was kept, where it is asked for.
-pub fn turn(verbose: bool, rec: &[u8; 754]) {
+// The line of a turn that was kept, where it is asked for. Answers whether what is printed still has a reader.
+pub fn turn(rt: &HostRuntime, verbose: bool, rec: &[u8; 754]) -> bool {
     if verbose {
         let mut text = [0u8; listing::LINE_ROOM];
         let n = line(rec, &mut text);
-        print(b"recorder", &text[..n]);
+        if let Err(why) = try_print(rt, b"recorder", &text[..n]) {
+            return !is_left(why);
+        }
     }
+    true
 }

@@ -22,6 +22,7 @@ pub fn head(mem: &[u8]) -> u8
 }
 
 // The place that store k touches.
+#[tactic(auto, using(crate::proofs::Made::place_head, crate::proofs::Made::place_byte))]
 fn place(mem: &[u8], k: usize) -> usize
     ensures { (result ≡ touched slots mem.now k) × (result < 65536) }
 {

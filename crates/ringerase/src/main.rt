@@ -1,41 +1,44 @@
 // Erases the ring in a file: ringerase FILE. One store, of 0 at the head; the records stay where they are, and no turn is held any more.
-use libc::{STDERR_FILENO, STDOUT_FILENO};
+#![tactic(auto)]
+
 use paper::refusal::Answer;
 use program::input::{keep_standard, read_whole};
-use program::output::{failed, print, print_number};
-use program::word::{Word, print_version, said};
+use program::output::{STDERR, failed, print, print_number};
+use program::word::{Word, arg_count, print_version, said, too_long};
+use std::env::FillError;
+use std::fs::File;
+use std::rt::Env;
 
-fn usage(fd: i32) -> bool {
-    io::write_all(
-        fd,
-        b"usage: ringerase FILE: erases the ring in a file, which holds no turn then\n",
-    )
+const USAGE: &[u8] =
+    b"usage: ringerase FILE: erases the ring in a file, which holds no turn then\n";
+
+// Says how the program is used, where its words were wrong.
+fn usage() {
+    io::write_all(STDERR, USAGE);
 }
 
 // Erases the ring that the file holds, in the image and then in the file.
-fn erase_in(fd: i32, path: &[u8], image: &mut [u8]) {
+fn erase_in(rt: &HostRuntime, file: &File, path: &[u8], image: &mut [u8]) {
     let was = head(image);
     let a = ring::erase(image);
     if let Answer::Refused(r) = a {
-        print_number(b"ringerase", b"refused", r.number() as u64);
+        print_number(rt, b"ringerase", b"refused", r.number() as u64);
         return;
     }
-    if !ringfile::make_sure(b"ringerase", path, fd, was) {
+    if !ringfile::make_sure(rt, b"ringerase", path, file, was) {
         return;
     }
-    if !store_head(fd, head(image)) {
-        failed(b"ringerase", path);
+    if let Err(e) = store_head(file, head(image)) {
+        failed(b"ringerase", path, e);
         return;
     }
-    print(b"ringerase", b"erased\n");
+    print(rt, b"ringerase", b"erased\n");
 }
 
 // Stores the head, and has it on the disk.
-fn store_head(fd: i32, b: u8) -> bool {
-    if !ringfile::store(fd, 0, b) {
-        return false;
-    }
-    ringfile::sync(fd)
+fn store_head(file: &File, b: u8) -> std::io::Result<()> {
+    ringfile::store(file, 0, b)?;
+    ringfile::sync(file)
 }
 
 // The head of a ring.
@@ -46,56 +49,53 @@ fn head(image: &[u8]) -> u8 {
     image[0]
 }
 
-fn erase_file(path: &[u8]) {
-    let fd = ringfile::open(b"ringerase", path);
-    if fd < 0 {
+fn erase_file(rt: &HostRuntime, path: &[u8]) {
+    let Some(file) = ringfile::open(rt, b"ringerase", path) else {
         return;
-    }
+    };
     let mut image = [0u8; ringfile::LONGER];
-    let got = read_whole(fd, &mut image);
+    let mut from = &file;
+    let got = read_whole(&mut from, &mut image);
     let n = got.bytes;
-    if got.sound {
-        erase_in(fd, path, &mut image[..n]);
-    } else {
-        failed(b"ringerase", path);
+    match got.why {
+        None => erase_in(rt, &file, path, &mut image[..n]),
+        Some(e) => failed(b"ringerase", path, e),
     }
-    libc::close(fd);
 }
 
 // No message goes before the look at where messages go.
-fn erase_asked() {
+fn erase_asked(rt: &HostRuntime) {
     let mut path = io::buffer();
-    let n = os::arg(1, &mut path);
-    if os::errno() == libc::ENAMETOOLONG {
-        failed(b"ringerase", b"the file's name");
+    let n = match rt.arg(1, &mut path) {
+        Ok(n) => n,
+        Err(FillError::NotPresent) => 0,
+        Err(FillError::TooLong) => {
+            failed(b"ringerase", b"the file's name", too_long());
+            return;
+        }
+    };
+    if !ringfile::is_no_output(rt, b"ringerase", &path[..n]) {
         return;
     }
-    if !ringfile::is_no_output(b"ringerase", &path[..n]) {
+    if arg_count(rt) != 2 {
+        usage();
         return;
     }
-    if os::arg_count() != 2 {
-        usage(STDERR_FILENO);
-        return;
-    }
-    erase_file(&path[..n]);
+    erase_file(rt, &path[..n]);
 }
 
-fn main() {
-    if !keep_standard(b"ringerase") {
+fn main(rt: HostRuntime) {
+    if !keep_standard(&rt, b"ringerase") {
         return;
     }
-    match said(1) {
+    match said(&rt, 1) {
         Word::Help => {
-            if !usage(STDOUT_FILENO) {
-                failed(b"ringerase", b"standard output");
-            }
+            print(&rt, b"ringerase", USAGE);
         }
         Word::Version => {
-            print_version(b"ringerase");
+            print_version(&rt, b"ringerase");
         }
-        Word::Plain => erase_asked(),
-        _ => {
-            usage(STDERR_FILENO);
-        }
+        Word::Plain => erase_asked(&rt),
+        _ => usage(),
     }
 }

@@ -1,24 +1,31 @@
 // Prints the text of a ring image: ringlist [FILE], standard input where no file is given. An image of any length is taken: a longer one is cut one
 // byte past a ring's length, and so is refused as it is.
+#![tactic(auto)]
+
 ghost use Rattle.std.specs.Prelude.{◌≡◌, ◌≤◌, length, take};
 ghost use Rattle.io.specs.Counts.{IsPrefixLen};
 ghost use Rattle.ring.specs.Ring.{slots};
 ghost use Rattle.listing.specs.Text.{text_of, room_for};
 
-use libc::{STDERR_FILENO, STDIN_FILENO, STDOUT_FILENO};
 use paper::refusal::Written;
-use program::input::{keep_standard, read_whole};
-use program::word::{Word, said};
+use program::input::{keep_standard, open_read, read_whole};
+use program::output::{STDERR, print};
+use program::word::{Word, arg_count, print_version, said, too_long};
+use std::env::FillError;
+use std::io::{Error, Read};
+use std::os::fd::AsRawFd;
+use std::rt::Env;
 
-fn failed(what: &[u8]) {
-    program::output::failed(b"ringlist", what);
+const USAGE: &[u8] =
+    b"usage: ringlist [FILE]: lists the turns of a ring image in a file or on standard input\n";
+
+fn failed(what: &[u8], why: Error) {
+    program::output::failed(b"ringlist", what, why);
 }
 
-fn usage(fd: i32) -> bool {
-    io::write_all(
-        fd,
-        b"usage: ringlist [FILE]: lists the turns of a ring image in a file or on standard input\n",
-    )
+// Says how the program is used, where its words were wrong.
+fn usage() {
+    io::write_all(STDERR, USAGE);
 }
 
 // The text of an image at the front of a buffer that has room for it, and its length.
@@ -33,74 +40,73 @@ fn show(image: &[u8], text: &mut [u8]) -> usize
     }
 }
 
-// Lists the image that a descriptor gives.
-fn list(fd: i32, what: &[u8]) {
+// Lists the image that a descriptor gives, by its number and what reads it.
+fn list<R: Read>(rt: &HostRuntime, fd: i32, from: &mut R, what: &[u8]) {
     let mut image = [0u8; ringfile::LONGER];
-    let got = read_whole(fd, &mut image);
+    let got = read_whole(from, &mut image);
     let n = got.bytes;
-    if !got.sound {
-        failed(what);
+    if let Some(e) = got.why {
+        failed(what, e);
         return;
     }
     if n == ringfile::MEMORY {
-        if !ringfile::is_apart(b"ringlist", what, fd) {
+        if !ringfile::is_apart(rt, b"ringlist", what, fd) {
             return;
         }
     }
     let mut text = [0u8; listing::ROOM];
     let m = show(&image[..n], &mut text);
-    program::output::print(b"ringlist", &text[..m]);
+    print(rt, b"ringlist", &text[..m]);
 }
 
-fn list_file(path: &[u8]) {
-    let fd = os::open_read(path);
-    if fd < 0 {
-        failed(path);
+fn list_file(rt: &HostRuntime, path: &[u8]) {
+    if !ringfile::is_text(rt, b"ringlist", path) {
         return;
     }
-    list(fd, path);
-    libc::close(fd);
+    match open_read(rt, path) {
+        Ok(mut file) => {
+            let fd = file.as_raw_fd();
+            list(rt, fd, &mut file, path);
+        }
+        Err(e) => failed(path, e),
+    }
 }
 
 // The image in the file that the first word names.
-fn list_named() {
+fn list_named(rt: &HostRuntime) {
     let mut path = io::buffer();
-    let n = os::arg(1, &mut path);
-    if os::errno() != 0 {
-        failed(b"the file's name");
-        return;
+    match rt.arg(1, &mut path) {
+        Ok(n) => list_file(rt, &path[..n]),
+        Err(FillError::NotPresent) => {}
+        Err(FillError::TooLong) => failed(b"the file's name", too_long()),
     }
-    list_file(&path[..n]);
 }
 
-fn run() {
-    if os::arg_count() > 2 {
-        usage(STDERR_FILENO);
+fn run(rt: &HostRuntime) {
+    if arg_count(rt) > 2 {
+        usage();
         return;
     }
-    if os::arg_count() < 2 {
-        list(STDIN_FILENO, b"standard input");
+    if arg_count(rt) < 2 {
+        let mut input = rt.stdin();
+        list(rt, input.as_raw_fd(), &mut input, b"standard input");
         return;
     }
-    list_named();
+    list_named(rt);
 }
 
-fn main() {
-    if !keep_standard(b"ringlist") {
+fn main(rt: HostRuntime) {
+    if !keep_standard(&rt, b"ringlist") {
         return;
     }
-    match said(1) {
+    match said(&rt, 1) {
         Word::Help => {
-            if !usage(STDOUT_FILENO) {
-                failed(b"standard output");
-            }
+            print(&rt, b"ringlist", USAGE);
         }
         Word::Version => {
-            program::word::print_version(b"ringlist");
+            print_version(&rt, b"ringlist");
         }
-        Word::Plain => run(),
-        _ => {
-            usage(STDERR_FILENO);
-        }
+        Word::Plain => run(&rt),
+        _ => usage(),
     }
 }

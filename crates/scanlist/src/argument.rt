@@ -1,6 +1,9 @@
 // What the program is started with.
 ghost use Rattle.std.specs.Prelude.{◌≤◌};
+ghost use Rattle.io.specs.Counts.{IsPrefixLen};
 
+use program::word::arg_count;
+use std::rt::Env;
 use text::digit_value;
 
 #[derive(Drop)]
@@ -9,10 +12,20 @@ pub enum Code {
     Nothing,
 }
 
+// The bytes of argument i at the front of a text, and how many: none where it is left out or there is no room for it.
+fn argument(rt: &HostRuntime, i: usize, text: &mut [u8]) -> usize
+    ensures { IsPrefixLen result text.new }
+{
+    match rt.arg(i, text) {
+        Ok(n) => n,
+        Err(_) => 0,
+    }
+}
+
 // Argument i as two hexadecimal digits.
-pub fn code_of(i: usize) -> Code {
+pub fn code_of(rt: &HostRuntime, i: usize) -> Code {
     let mut text = [0u8; 4];
-    let n = os::arg(i, &mut text);
+    let n = argument(rt, i, &mut text);
     if n != 2 {
         return Code::Nothing;
     }
@@ -28,15 +41,15 @@ pub fn code_of(i: usize) -> Code {
 }
 
 // Argument i as a decimal number from `least` to `most`: 0 where it is none, and `otherwise` where it is left out.
-pub fn number(i: usize, least: usize, most: usize, otherwise: usize) -> usize
+pub fn number(rt: &HostRuntime, i: usize, least: usize, most: usize, otherwise: usize) -> usize
     requires { otherwise ≤ most }
     ensures { result ≤ most }
 {
-    if os::arg_count() <= i {
+    if arg_count(rt) <= i {
         return otherwise;
     }
     let mut text = [0u8; 8];
-    let n = os::arg(i, &mut text);
+    let n = argument(rt, i, &mut text);
     let value = decimal(&text[..n]);
     if value < least {
         return 0;

@@ -21,11 +21,18 @@ fn call_text(phase: Phase, words: &[u16], stop: Stop, reply: &[u8; 20], text: &m
 }
 
 // The lines of a call.
-pub fn call(phase: Phase, words: &[u16], stop: Stop, reply: &[u8; 20], text: &mut [u8]) -> bool
+pub fn call(
+    rt: &HostRuntime,
+    phase: Phase,
+    words: &[u16],
+    stop: Stop,
+    reply: &[u8; 20],
+    text: &mut [u8],
+) -> bool
     requires { room_for (length words.now) ≤ length text.old }
 {
     let n = call_text(phase, words, stop, reply, text);
-    print(b"scanlist", &text[..n])
+    print(rt, b"scanlist", &text[..n])
 }
 
 fn end_text(taken: u64, skipped: u32, held: u8, text: &mut [u8]) -> usize
@@ -40,10 +47,10 @@ fn end_text(taken: u64, skipped: u32, held: u8, text: &mut [u8]) -> usize
 }
 
 // The last line.
-pub fn end(taken: u64, skipped: u32, held: u8) {
+pub fn end(rt: &HostRuntime, taken: u64, skipped: u32, held: u8) {
     let mut text = [0u8; 59];
     let n = end_text(taken, skipped, held, &mut text);
-    print(b"scanlist", &text[..n]);
+    print(rt, b"scanlist", &text[..n]);
 }
 
 fn refused_text(number: u8, text: &mut [u8]) -> usize
@@ -57,8 +64,8 @@ fn refused_text(number: u8, text: &mut [u8]) -> usize
     }
 }
 
-pub fn refused(number: u8) {
+pub fn refused(rt: &HostRuntime, number: u8) {
     let mut text = [0u8; 12];
     let n = refused_text(number, &mut text);
-    print(b"scanlist", &text[..n]);
+    print(rt, b"scanlist", &text[..n]);
 }
