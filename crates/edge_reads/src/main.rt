@@ -1,12 +1,16 @@
 // Prints what the reader and the gatherer make of edges that the scope paper names: empty input, a descriptor that begins at the second byte,
 // and a distance of 0 beside another in one cell.
+#![tactic(auto)]
+
 use io::print_decimal;
-use libc::STDOUT_FILENO;
 use paper::unit::{AngleQ6, DistanceQ2};
 use stream::{Reader, Stop};
 use turn::gather::{Gathered, Gatherer};
 use wire::request::Request;
 use wire::sample::Sample;
+
+// The descriptor of standard output.
+const STDOUT_FILENO: i32 = 1;
 
 fn stop_number(stop: Stop) -> u64 {
     match stop {

@@ -1,10 +1,14 @@
 // Prints the listings of rings at the edges: all zeros, one byte short and one too many, head 128, a record that does not read, a full ring that
 // has gone round, and then with a turn broken off before its last store and finished.
+#![tactic(auto)]
+
 ghost use Rattle.std.specs.Prelude.{◌≡◌, length};
 ghost use Rattle.io.specs.Counts.{IsPrefixLen};
 
-use libc::STDOUT_FILENO;
 use paper::refusal::Written;
+
+// The descriptor of standard output.
+const STDOUT_FILENO: i32 = 1;
 
 // A ring's length, and one byte more.
 const MEMORY: usize = 1 + 768 * ring::SLOTS;

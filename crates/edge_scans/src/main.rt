@@ -1,27 +1,36 @@
 // Reads captures whole and then at several cuts and rooms. Prints a line for each: how many words and a digest of everything that was given, in
 // order, bytes skipped and held, and whether the other readings came to the same.
+#![tactic(auto)]
+
 ghost use Rattle.std.specs.Prelude.{◌+◌, ◌<◌, ◌≤◌, length};
 ghost use Rattle.io.specs.Counts.{IsPrefixLen};
 
-use libc::STDOUT_FILENO;
+use std::fs::File;
+use std::io::{Cursor, Error, Write};
+use std::os::fd::AsRawFd;
 use stream::{Reader, Stop};
 use wire::request::Request;
 
+// The descriptors of standard output and standard error.
+const STDOUT_FILENO: i32 = 1;
+
+const STDERR_FILENO: i32 = 2;
+
 // A sum of what was given, and the sum of these sums, which tells another order from the same.
-#[derive(Drop)]
+#[derive(Clone, Copy)]
 struct Digest {
     sum: u64,
     sums: u64,
 }
 
-#[derive(Drop)]
+#[derive(Clone, Copy)]
 struct Tally {
     reader: Reader,
     words: u64,
     digest: Digest,
 }
 
-#[derive(Drop)]
+#[derive(Clone, Copy)]
 struct Step {
     tally: Tally,
     taken: usize,
@@ -203,25 +212,53 @@ fn show(name: &[u8], request: Request, input: &[u8]) {
     io::write_all(STDOUT_FILENO, b"\n");
 }
 
-// The capture in a file.
-fn show_file(name: &[u8], request: Request) {
-    let mut input = [0u8; 4096];
-    let fd = os::open_read(name);
-    if fd < 0 {
-        os::fail(name);
-        return;
+// Where the words of an error's text end: its number stands behind them in brackets, or zeros.
+fn words_end(text: &[u8]) -> usize
+    ensures { IsPrefixLen result text.now }
+{
+    for (i, b) in text.iter().enumerate() {
+        if *b == b'(' {
+            return i.saturating_sub(1);
+        }
+        if *b == 0 {
+            return i;
+        }
     }
-    let n = io::read_full(fd, &mut input);
-    libc::close(fd);
-    show(name, request, &input[..n]);
+    text.len()
 }
 
-fn main() {
-    show_file(b"clean.bin", Request::scan());
-    show_file(b"damaged.bin", Request::scan());
-    show_file(b"noise.bin", Request::force_scan());
-    show_file(b"replies.bin", Request::get_info());
-    show_file(b"replies.bin", Request::get_health());
-    show_file(b"replies.bin", Request::scan());
-    show_file(b"bad_health.bin", Request::get_health());
+// A file that cannot be opened, and why by the system's own words.
+fn say_unopened(name: &str, why: Error) {
+    let mut to = Cursor::new([0u8; 256]);
+    let _ = write!(to, "{why}");
+    let text = to.into_inner();
+    let n = words_end(&text);
+    io::write_all(STDERR_FILENO, name.as_bytes());
+    io::write_all(STDERR_FILENO, b": ");
+    io::write_all(STDERR_FILENO, &text[..n]);
+    io::write_all(STDERR_FILENO, b"\n");
+}
+
+// The capture in a file.
+fn show_file(rt: &HostRuntime, name: &str, request: Request) {
+    let mut input = [0u8; 4096];
+    let file = match File::open(rt, name) {
+        Ok(file) => file,
+        Err(why) => {
+            say_unopened(name, why);
+            return;
+        }
+    };
+    let n = io::read_full(file.as_raw_fd(), &mut input);
+    show(name.as_bytes(), request, &input[..n]);
+}
+
+fn main(rt: HostRuntime) {
+    show_file(&rt, "clean.bin", Request::scan());
+    show_file(&rt, "damaged.bin", Request::scan());
+    show_file(&rt, "noise.bin", Request::force_scan());
+    show_file(&rt, "replies.bin", Request::get_info());
+    show_file(&rt, "replies.bin", Request::get_health());
+    show_file(&rt, "replies.bin", Request::scan());
+    show_file(&rt, "bad_health.bin", Request::get_health());
 }
