@@ -16,7 +16,7 @@ fn main() {
     let archive = folder.join("libbernkessel.a");
     println!("cargo:rerun-if-changed={}", archive.display());
     if !archive.is_file() {
-        eprintln!("{} is missing: rt staticlib bernkessel writes it", archive.display());
+        eprintln!("{} is missing: tools/build bernkessel writes it", archive.display());
         process::exit(1);
     }
     println!("cargo:rustc-env=BERNKESSEL_ARCHIVE={}", archive.display());

@@ -48,7 +48,7 @@ const PROGRAMS: &str = "BERNKESSEL_BIN";
 fn program(name: &str) -> Result<PathBuf, String> {
     let own = concat!(env!("CARGO_MANIFEST_DIR"), "/../target/bin");
     let path = env::var_os(PROGRAMS).map_or(own.into(), PathBuf::from).join(name);
-    let missing = || format!("{} is missing: rt check {name} writes it", path.display());
+    let missing = || format!("{} is missing: tools/build {name} writes it", path.display());
     path.is_file().then_some(()).ok_or_else(missing)?;
     Ok(path)
 }
