@@ -2,13 +2,12 @@
 use Prim.Native.Nat.{ℕ}
 use mathlib.Core.Path.{◌≡◌, sym, ◌∙◌}
 use mathlib.Core.List.{List}
+use Rattle.std.specs.Prelude.{Result}
 use Rattle.paper.specs.Outcome.{Outcome}
 use Rattle.paper.specs.Writing.{Writes}
-use Rattle.paper.specs.Promises.{NumberGiven, SumGiven, WordRead, WordBytes, WordPut}
+use Rattle.paper.specs.Promises.{NumberGiven, SumGiven, WordRead, WordBytes, BytesPut}
 use Rattle.paper.specs.declared.refusal.Refusal.{Refusal}
-use Rattle.paper.specs.declared.refusal.Answer.{Answer}
-use Rattle.paper.specs.declared.refusal.Written.{Written}
-use Rattle.paper.proofs.Refusals.{answered_one, written_one}
+use Rattle.paper.proofs.Refusals.{outcome_one}
 
 pub number_determined : {a : Refusal} {r s : ℕ} → NumberGiven a r → NumberGiven a s → r ≡ s
 number_determined p q = p.answer ∙ sym q.answer
@@ -22,9 +21,9 @@ word_determined p q = p.answer ∙ sym q.answer
 pub bytes_determined : {w v : ℕ} {r s : List ℕ} → WordBytes w v r → WordBytes w v s → r ≡ s
 bytes_determined p q = p.answer ∙ sym q.answer
 
-pub put_determined : {w v place : ℕ} {was : List ℕ} {r s : Answer} {is js : List ℕ} → WordPut w v place was r is → WordPut w v place was s js → (r ≡ s) × (is ≡ js)
-put_determined {r = r} {s = s} p q = (answered_one r s (p.answer ∙ sym q.answer), p.output ∙ sym q.output)
+pub put_determined : {place : ℕ} {xs was : List ℕ} {r s : Result (Unit {0}) Refusal} {is js : List ℕ} → BytesPut xs place was r is → BytesPut xs place was s js → (r ≡ s) × (is ≡ js)
+put_determined {r = r} {s = s} p q = (outcome_one r s (p.answer ∙ sym q.answer), p.output ∙ sym q.output)
 
 -- of every writer, in this crate and above it
-pub writes_determined : {o : Outcome (List ℕ)} {was : List ℕ} {r s : Written} {is js : List ℕ} → Writes o was r is → Writes o was s js → (r ≡ s) × (is ≡ js)
-writes_determined {r = r} {s = s} p q = (written_one r s (p.answer ∙ sym q.answer), p.output ∙ sym q.output)
+pub writes_determined : {o : Outcome (List ℕ)} {was : List ℕ} {r s : Result ℕ Refusal} {is js : List ℕ} → Writes o was r is → Writes o was s js → (r ≡ s) × (is ≡ js)
+writes_determined {r = r} {s = s} p q = (outcome_one r s (p.answer ∙ sym q.answer), p.output ∙ sym q.output)

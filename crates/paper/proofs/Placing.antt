@@ -1,18 +1,19 @@
 -- Bytes put at a place, one part behind the other: `put_more` joins two parts, `put_fits` is a word's part, `put_front` ends at the front of an output.
-use Prim.Native.Nat.{ℕ, suc, ◌+◌, ◌-◌, ◌<◌, ◌≤◌}
+use Prim.Native.Nat.{ℕ, suc, ◌+◌, ◌<◌, ◌≤◌}
 use mathlib.Core.Path.{◌≡◌, sym, ap, ◌∙◌}
 use mathlib.Core.List.{List, [], ◌∷◌, ◌++◌, append_assoc, append-nil}
 use native.Mathlib.Omega.{arith}
 use lib.ListN.{length, take, drop, set, length-append, length-drop, take-append-drop}
 use lib.Seq.{length-take-le, take_at, drop_at, drop-drop, set_split, append_snoc}
+use borrow.Rule.Slice.PartMut.{put_mid}
 use borrow.Author.Tests.{le-ltb}
 use Rattle.paper.specs.Outcome.{gives, if_given}
 use Rattle.paper.specs.Refusals.{number_of}
-use Rattle.paper.specs.Words.{bytes_of}
 use Rattle.paper.specs.Writing.{over}
-use Rattle.paper.specs.Promises.{placing, put_at, WordPut}
+use Rattle.paper.specs.Promises.{placing, put_at, BytesPut}
 use Rattle.paper.specs.declared.refusal.Refusal.TheVariants.{OutputShort}
-use Rattle.paper.specs.declared.refusal.Answer.{Answer}
+use Rattle.paper.specs.declared.refusal.Refusal.{Refusal}
+use Rattle.std.specs.Prelude.{Result}
 use Rattle.paper.proofs.Outcome.{refuse_no}
 
 -- the part up to the end of the bytes put
@@ -54,8 +55,15 @@ pub put_front : (xs was : List ℕ) → put_at 0 xs was ≡ over was xs
 unfolding put_at over
 put_front xs was = let z : 0 + length xs ≡ length xs = omega arith in rw z
 
--- a word that fits at a place stands there
-pub put_fits : (w v p : ℕ) (was is : List ℕ) (r : Answer) → p + w ≤ length was → WordPut w v p was r is → is ≡ put_at p (bytes_of w v) was
+-- bytes that fit at a place stand there
+pub put_fits : (xs : List ℕ) (p : ℕ) (was is : List ℕ) (r : Result (Unit {0}) Refusal) → p + length xs ≤ length was → BytesPut xs p was r is → is ≡ put_at p xs was
 unfolding placing if_given
-put_fits w v p was is r h e =
-    e.output ∙ ap (λ o. if_given o (λ _. put_at p (bytes_of w v) was) was) (refuse_no (number_of OutputShort) (gives tt) (le-ltb (length was - p) w (omega arith)))
+put_fits xs p was is r h e =
+    e.output ∙ ap (λ o. if_given o (λ _. put_at p xs was) was) (refuse_no (number_of OutputShort) (gives tt) (le-ltb (length was) (p + length xs) h))
+
+-- a part of the output that is written whole
+pub put_part : (p k : ℕ) (xs ys was : List ℕ) → k ≡ length xs → ys ≡ xs → put_mid p k was ys ≡ put_at p xs was
+unfolding put_at
+put_part p k xs ys was e f =
+    rw (f, e)
+    (sym (append_assoc (take p was) xs (drop (length xs) (drop p was))) ∙ ap (λ (zs : List ℕ). take p was ++ xs ++ zs) (drop-drop (length xs) p was))

@@ -1,10 +1,11 @@
--- Two refusals with one number are the same case (`number_one`), so the shared answers are determined by what they mean (`answered_one`, `written_one`).
+-- Two refusals with one number are the same case (`number_one`), so a Result is determined by what it means (`outcome_one`).
 use Prim.Native.Nat.{ℕ, ◌-◌}
 use mathlib.Core.Path.{◌≡◌, refl, sym, ap, ◌∙◌}
 use mathlib.Core.List.{List, [], ◌∷◌}
 use lib.ListN.{get_or}
 use Rattle.paper.specs.Outcome.{Outcome, refuses}
-use Rattle.paper.specs.Refusals.{number_of, answered, written}
+use Rattle.std.specs.Prelude.{Result, Ok, Err}
+use Rattle.paper.specs.Refusals.{number_of, outcome}
 use Rattle.paper.specs.declared.refusal.Refusal.{Refusal}
 use Rattle.paper.specs.declared.refusal.Refusal.TheVariants.{
   CodeNotPermitted,
@@ -21,10 +22,6 @@ use Rattle.paper.specs.declared.refusal.Refusal.TheVariants.{
   NoSuchNumber,
   NoSampleSent,
 }
-use Rattle.paper.specs.declared.refusal.Answer.{Answer}
-use Rattle.paper.specs.declared.refusal.Answer.TheVariants as answer
-use Rattle.paper.specs.declared.refusal.Written.{Written}
-use Rattle.paper.specs.declared.refusal.Written.TheVariants as writing
 use Rattle.paper.proofs.Outcome.{gives_one, refuses_one, gives_refuses}
 
 -- the cases in the order of their numbers
@@ -59,16 +56,9 @@ number_one a b e = sym (case_number a) ∙ ap case_of e ∙ case_number b
 pub refused_one : {A : Type 0} (a b : Refusal) → ◌≡◌ {A = Outcome A} (refuses (number_of a)) (refuses (number_of b)) → a ≡ b
 refused_one a b e = number_one a b (refuses_one e)
 
-pub answered_one : (r s : Answer) → answered r ≡ answered s → r ≡ s
-unfolding answered
-answered_one answer.Done answer.Done e = refl
-answered_one answer.Done (answer.Refused b) e = absurd (gives_refuses e)
-answered_one (answer.Refused a) answer.Done e = absurd (gives_refuses (sym e))
-answered_one (answer.Refused a) (answer.Refused b) e = ap answer.Refused (refused_one a b e)
-
-pub written_one : (r s : Written) → written r ≡ written s → r ≡ s
-unfolding written
-written_one (writing.Bytes m) (writing.Bytes n) e = ap writing.Bytes (gives_one e)
-written_one (writing.Bytes m) (writing.Refused b) e = absurd (gives_refuses e)
-written_one (writing.Refused a) (writing.Bytes n) e = absurd (gives_refuses (sym e))
-written_one (writing.Refused a) (writing.Refused b) e = ap writing.Refused (refused_one a b e)
+pub outcome_one : {A : Type 0} (r s : Result A Refusal) → outcome r ≡ outcome s → r ≡ s
+unfolding outcome
+outcome_one (Ok a) (Ok b) e = ap Ok (gives_one e)
+outcome_one (Ok a) (Err b) e = absurd (gives_refuses e)
+outcome_one (Err a) (Ok b) e = absurd (gives_refuses (sym e))
+outcome_one (Err a) (Err b) e = ap Err (refused_one a b e)

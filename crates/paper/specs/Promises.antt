@@ -1,12 +1,11 @@
 -- What each public function of the crate promises.
-use Rattle.std.specs.Prelude.{ℕ, ◌-◌, ◌+◌, ◌≡◌, List, ◌++◌, ltb, length, take, drop}
+use Rattle.std.specs.Prelude.{ℕ, ◌+◌, ◌≡◌, List, ◌++◌, ltb, length, take, drop, Result}
 use Rattle.paper.specs.Outcome.{Outcome, gives, refuse_if, if_given}
-use Rattle.paper.specs.Refusals.{number_of, answered}
+use Rattle.paper.specs.Refusals.{number_of, outcome}
 use Rattle.paper.specs.Words.{value_of, bytes_of}
 use Rattle.paper.specs.Sum.{sum_of}
 use Rattle.paper.specs.declared.refusal.Refusal.{Refusal}
 use Rattle.paper.specs.declared.refusal.Refusal.TheVariants.{OutputShort}
-use Rattle.paper.specs.declared.refusal.Answer.{Answer}
 
 -- `Refusal::number`
 pub record NumberGiven (a : Refusal) (r : ℕ) : Type 0 where
@@ -26,13 +25,13 @@ pub record WordBytes (w v : ℕ) (r : List ℕ) : Type 0 where
 
 -- w bytes fit at a place of an output
 unfoldable pub placing : ℕ → ℕ → ℕ → Outcome (Unit {0})
-placing w place room = refuse_if (ltb (room - place) w) (number_of OutputShort) (gives tt)
+placing w place room = refuse_if (ltb room (place + w)) (number_of OutputShort) (gives tt)
 
 -- bytes stand at a place; all others stay
 unfoldable pub put_at : ℕ → List ℕ → List ℕ → List ℕ
 put_at place xs was = take place was ++ xs ++ drop (place + length xs) was
 
--- `put16`, `put32`, over the width
-pub record WordPut (w v place : ℕ) (was : List ℕ) (r : Answer) (is : List ℕ) : Type 0 where
-  pub answer : answered r ≡ placing w place (length was)
-  pub output : is ≡ if_given (placing w place (length was)) (λ _. put_at place (bytes_of w v) was) was
+-- `put`
+pub record BytesPut (xs : List ℕ) (place : ℕ) (was : List ℕ) (r : Result (Unit {0}) Refusal) (is : List ℕ) : Type 0 where
+  pub answer : outcome r ≡ placing (length xs) place (length was)
+  pub output : is ≡ if_given (placing (length xs) place (length was)) (λ _. put_at place xs was) was

@@ -1,5 +1,5 @@
--- The number that each refusal carries, and what the shared answers mean.
-use Rattle.std.specs.Prelude.{ℕ}
+-- The number that each refusal carries, and what a Result means.
+use Rattle.std.specs.Prelude.{ℕ, Result, Ok, Err}
 use Rattle.paper.specs.Outcome.{Outcome, gives, refuses}
 use Rattle.paper.specs.declared.refusal.Refusal.{Refusal}
 use Rattle.paper.specs.declared.refusal.Refusal.TheVariants.{
@@ -17,10 +17,6 @@ use Rattle.paper.specs.declared.refusal.Refusal.TheVariants.{
   NoSuchNumber,
   NoSampleSent,
 }
-use Rattle.paper.specs.declared.refusal.Answer.{Answer}
-use Rattle.paper.specs.declared.refusal.Answer.TheVariants as answer
-use Rattle.paper.specs.declared.refusal.Written.{Written}
-use Rattle.paper.specs.declared.refusal.Written.TheVariants as writing
 
 -- the paper's table
 unfoldable pub number_of : Refusal → ℕ
@@ -38,12 +34,7 @@ number_of HeadOver = 11
 number_of NoSuchNumber = 12
 number_of NoSampleSent = 13
 
--- what is done gives nothing but that
-unfoldable pub answered : Answer → Outcome (Unit {0})
-answered answer.Done = gives tt
-answered (answer.Refused r) = refuses (number_of r)
-
--- a writer gives the count of bytes written
-unfoldable pub written : Written → Outcome ℕ
-written (writing.Bytes n) = gives n
-written (writing.Refused r) = refuses (number_of r)
+-- a Result gives a value, or carries a refusal's number
+unfoldable pub outcome : {A : Type 0} → Result A Refusal → Outcome A
+outcome (Ok a) = gives a
+outcome (Err r) = refuses (number_of r)

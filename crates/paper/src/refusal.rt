@@ -1,8 +1,7 @@
-// Refusals: one case for each number of the scope paper's table.
-ghost use Rattle.std.specs.Prelude.{◌≡◌};
+// Refusals: one case for each number of the scope paper's table. What is done or refused answers `Result<(), Refusal>`, a writer `Result<usize, Refusal>`.
 ghost use Rattle.paper.specs.Promises.{NumberGiven};
 
-#[derive(Clone, Copy)]
+#[derive(Clone, Copy, Debug, PartialEq, Eq)]
 pub enum Refusal {
     CodeNotPermitted,
     OutputShort,
@@ -17,20 +16,6 @@ pub enum Refusal {
     HeadOver,
     NoSuchNumber,
     NoSampleSent,
-}
-
-// What is done or refused, with no value to give.
-#[derive(Clone, Copy)]
-pub enum Answer {
-    Done,
-    Refused(Refusal),
-}
-
-// What a writer answers: how many bytes, or words, it wrote.
-#[derive(Clone, Copy)]
-pub enum Written {
-    Bytes(usize),
-    Refused(Refusal),
 }
 
 impl Refusal {

@@ -5,10 +5,8 @@ pub fn sum(bytes: &[u8]) -> u8
     ensures { SumGiven bytes.now result }
 {
     let mut acc: u8 = 0;
-    let mut i = 0;
-    while i < bytes.len() {
-        acc = acc ^ bytes[i];
-        i += 1;
+    for b in bytes {
+        acc ^= *b;
     }
     acc
 }

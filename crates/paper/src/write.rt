@@ -3,34 +3,32 @@ ghost use Rattle.std.specs.Prelude.{◌++◌};
 ghost use Rattle.paper.specs.Outcome.{gives};
 ghost use Rattle.paper.specs.Writing.{Writes};
 
-use crate::refusal::{Refusal, Written};
+use crate::refusal::Refusal;
 
-pub fn write(bytes: &[u8], out: &mut [u8]) -> Written
+pub fn write(bytes: &[u8], out: &mut [u8]) -> Result<usize, Refusal>
     ensures { Writes (gives bytes.now) out.old result out.new }
 {
-    if out.len() < bytes.len() {
-        return Written::Refused(Refusal::OutputShort);
+    let n = bytes.len();
+    if out.len() < n {
+        return Err(Refusal::OutputShort);
     }
-    let mut i = 0;
-    while i < bytes.len() {
-        out[i] = bytes[i];
-        i += 1;
-    }
-    Written::Bytes(i)
+    out[..n].copy_from_slice(bytes);
+    Ok(n)
 }
 
 // The same of two lists of bytes, one behind the other.
-pub fn write_both(head: &[u8], tail: &[u8], out: &mut [u8]) -> Written
+pub fn write_both(head: &[u8], tail: &[u8], out: &mut [u8]) -> Result<usize, Refusal>
     ensures { Writes (gives (head.now ++ tail.now)) out.old result out.new }
 {
     let at = head.len();
     if out.len() < at {
-        return Written::Refused(Refusal::OutputShort);
+        return Err(Refusal::OutputShort);
     }
     if out.len() - at < tail.len() {
-        return Written::Refused(Refusal::OutputShort);
+        return Err(Refusal::OutputShort);
     }
-    write(head, out);
-    write(tail, &mut out[at..]);
-    Written::Bytes(at + tail.len())
+    let end = at + tail.len();
+    out[..at].copy_from_slice(head);
+    out[at..end].copy_from_slice(tail);
+    Ok(end)
 }

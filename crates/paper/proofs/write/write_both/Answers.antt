@@ -1,6 +1,11 @@
 -- `paper::write::write_both` meets its promise.
+use mathlib.Core.Path.{ap, ◌∙◌}
+use mathlib.Core.List.{◌++◌}
 use native.Mathlib.Omega.{arith}
-use lib.ListN.{length-append}
+use lib.ListN.{length, drop, length-append}
+use Rattle.paper.specs.Writing.{over}
+use Rattle.paper.specs.Promises.{put_at}
+use Rattle.paper.proofs.Placing.{put_part}
 use Rattle.paper.proofs.Writing.{writes_short, both_written}
 use Rattle.paper.proofs.write.write_both.Goals as goal
 
@@ -11,4 +16,8 @@ pub returns-then-out-at-2 : goal.returns-then-out-at-2
 returns-then-out-at-2 c = writes_short _ _ (simp length-append (omega arith))
 
 pub returns : goal.returns
-returns c = both_written _ _ _ _ _ _ _ c.if-out-at.false c.if-out-at-2.false c.write.ensures c.write-2.ensures
+unfolding over
+returns c =
+    both_written _ _ _ _ (omega arith)
+    (put_part _ _ _ _ _ (omega arith) c.copy_from_slice-2.ensures.after
+    ∙ ap (λ xs. put_at (length c.args.head.now) c.args.tail.now (xs ++ drop (length c.args.head.now) c.args.out.now)) c.copy_from_slice.ensures.after)
