@@ -96,6 +96,32 @@ put_done xs place was is h s =
     let e = refuse_no (number_of OutputShort) (gives tt) (le-ltb (length was) (place + length xs) h) in
     record { answer = sym e; output = rw e s }
 
+-- ---- what a writer's answer says
+
+-- a writer of given bytes that refuses had no room for them
+pub written_err : {xs was is : List ℕ} {q : Refusal} → Writes (gives xs) was (Err q) is → length was < length xs
+unfolding outcome mapped
+written_err {xs = xs} {was = was} {q = q} w = go (ltb (length was) (length xs)) refl
+  where
+    go : (t : Bool) → ltb (length was) (length xs) ≡ t → length was < length xs
+    go true e = ltb-true (length was) (length xs) e
+    go false e = absurd (gives_refuses (sym (w.answer ∙ ap (mapped length) (fitting_yes xs (length was) (ltb-false (length was) (length xs) e)))))
+
+-- one that wrote n bytes had room, and wrote all
+pub record All (xs was : List ℕ) (n : ℕ) : Type 0 where
+  pub fits : length xs ≤ length was
+  pub size : n ≡ length xs
+
+pub written_all : {xs was is : List ℕ} {n : ℕ} → Writes (gives xs) was (Ok n) is → All xs was n
+unfolding outcome mapped
+written_all {xs = xs} {was = was} {n = n} w = go (ltb (length was) (length xs)) refl
+  where
+    go : (t : Bool) → ltb (length was) (length xs) ≡ t → All xs was n
+    go true e = absurd (gives_refuses (w.answer ∙ ap (mapped length) (fitting_no xs (length was) (ltb-true (length was) (length xs) e))))
+    go false e =
+        let h = ltb-false (length was) (length xs) e in
+        record { fits = h; size = gives_one (w.answer ∙ ap (mapped length) (fitting_yes xs (length was) h)) }
+
 -- what stands at the front of the output, where n bytes were written
 pub record Front (o : Outcome (List ℕ)) (n : ℕ) (is : List ℕ) : Type 0 where
   pub bytes : List ℕ

@@ -6,22 +6,22 @@ use mathlib.Core.List.{List, [], ◌∷◌, ◌++◌}
 use lib.ListN.{length, get_or}
 use borrow.Author.Tests.{lt-ltb, le-ltb, le-leb, lt-leb, eq-eqb, ne_eqb}
 use Rattle.paper.specs.Outcome.{gives, refuses}
-use Rattle.paper.specs.Refusals.{number_of}
+use Rattle.paper.specs.Refusals.{number_of, outcome}
+use Rattle.std.specs.Prelude.{Ok, Err}
 use Rattle.paper.specs.Words.{bytes_of}
 use Rattle.paper.specs.declared.refusal.Refusal.TheVariants.{NotADescriptor}
 use Rattle.paper.proofs.Outcome.{refuse_yes, refuse_no}
 use Rattle.wire.specs.Request.{start_byte}
-use Rattle.wire.specs.Descriptor.{flag_byte, lengths, word_in, is_descriptor, descriptor_in, descriptor_of, bytes_of_descriptor, descriptor_read}
+use Rattle.wire.specs.Descriptor.{flag_byte, lengths, word_in, is_descriptor, descriptor_in, descriptor_of, bytes_of_descriptor}
 use Rattle.wire.specs.Promises.{DescriptorIsRead}
 use Rattle.wire.specs.declared.descriptor.Descriptor.{Descriptor}
-use Rattle.wire.specs.declared.descriptor.DescriptorRead.TheVariants as read
 
-pub descriptor_no : (xs : List ℕ) → is_descriptor xs ≡ false → DescriptorIsRead xs (read.Refused NotADescriptor)
-unfolding descriptor_read descriptor_of
+pub descriptor_no : (xs : List ℕ) → is_descriptor xs ≡ false → DescriptorIsRead xs (Err NotADescriptor)
+unfolding outcome descriptor_of
 descriptor_no xs e = record { answer = sym (refuse_yes (number_of NotADescriptor) (gives (descriptor_in xs)) (ap not e)) }
 
-pub descriptor_yes : (xs : List ℕ) (d : Descriptor) → is_descriptor xs ≡ true → d ≡ descriptor_in xs → DescriptorIsRead xs (read.Gives d)
-unfolding descriptor_read descriptor_of
+pub descriptor_yes : (xs : List ℕ) (d : Descriptor) → is_descriptor xs ≡ true → d ≡ descriptor_in xs → DescriptorIsRead xs (Ok d)
+unfolding outcome descriptor_of
 descriptor_yes xs d e q = record { answer = ap gives q ∙ sym (refuse_no (number_of NotADescriptor) (gives (descriptor_in xs)) (ap not e)) }
 
 module _ (xs : List ℕ) where

@@ -12,8 +12,8 @@ use Rattle.paper.specs.Refusals.{number_of}
 use Rattle.paper.specs.declared.refusal.Refusal.TheVariants.{CodeNotPermitted}
 use Rattle.paper.specs.Sum.{sum_of}
 use Rattle.paper.specs.Writing.{Writes, over}
-use Rattle.paper.specs.declared.refusal.Written.{Written}
-use Rattle.paper.specs.declared.refusal.Written.TheVariants as writing
+use Rattle.paper.specs.declared.refusal.Refusal.{Refusal}
+use Rattle.std.specs.Prelude.{Result, Ok}
 use Rattle.paper.proofs.Outcome.{refuse_yes, refuse_no}
 use Rattle.paper.proofs.Writing.{writes_all, written_over}
 use Rattle.wire.specs.Request.{start_byte, with_sum, request_of}
@@ -36,8 +36,8 @@ module _ (code : ℕ) (payload : List ℕ) where
   long_request c h = rw (le-ltb code 0x80 c) (refuse_no (number_of CodeNotPermitted) _ (le-ltb 255 (length payload) h))
 
 -- the checksum is stored behind the bytes that it is of
-pub sum_behind : (xs was mid : List ℕ) (r : Written) (n s : ℕ) → length xs ≡ n → n + 1 ≤ length was → Writes (gives xs) was r mid → s ≡ sum_of (take n mid)
-    → Writes (gives (with_sum xs)) was (writing.Bytes (n + 1)) (set mid n s)
+pub sum_behind : (xs was mid : List ℕ) (r : Result ℕ Refusal) (n s : ℕ) → length xs ≡ n → n + 1 ≤ length was → Writes (gives xs) was r mid → s ≡ sum_of (take n mid)
+    → Writes (gives (with_sum xs)) was (Ok (n + 1)) (set mid n s)
 unfolding with_sum over
 sum_behind xs was mid r n s l h w e =
     let m : mid ≡ xs ++ drop (length xs) was = written_over xs was mid r (omega arith) w in

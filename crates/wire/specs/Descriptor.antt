@@ -1,13 +1,11 @@
 -- Descriptors: A5 5A, a 32-bit word whose low 30 bits are the length and whose top two are the send mode, and a type byte.
 use Rattle.std.specs.Prelude.{ℕ, ◌+◌, ◌*◌, ◌/◌, ◌%◌, Bool, not, ◌&&◌, ◌||◌, List, [], ◌∷◌, ◌++◌, ltb, leb, eqb, length, get_or}
-use Rattle.paper.specs.Outcome.{Outcome, gives, refuses, refuse_if}
+use Rattle.paper.specs.Outcome.{Outcome, gives, refuse_if}
 use Rattle.paper.specs.Refusals.{number_of}
 use Rattle.paper.specs.Words.{value_of, bytes_of}
 use Rattle.paper.specs.declared.refusal.Refusal.TheVariants.{NotADescriptor}
 use Rattle.wire.specs.Request.{start_byte}
 use Rattle.wire.specs.declared.descriptor.Descriptor.{Descriptor}
-use Rattle.wire.specs.declared.descriptor.DescriptorRead.{DescriptorRead}
-use Rattle.wire.specs.declared.descriptor.DescriptorRead.TheVariants as read
 
 abbrev pub flag_byte : ℕ
 flag_byte = 0x5A
@@ -36,11 +34,6 @@ unfoldable pub bytes_of_descriptor : Descriptor → Outcome (List ℕ)
 bytes_of_descriptor d =
     refuse_if (ltb 1 d.mode || leb lengths d.length) (number_of NotADescriptor)
     (gives (start_byte ∷ flag_byte ∷ bytes_of 4 (d.length + d.mode * lengths) ++ d.kind ∷ []))
-
--- what the code's answer means
-unfoldable pub descriptor_read : DescriptorRead → Outcome Descriptor
-descriptor_read (read.Gives d) = gives d
-descriptor_read (read.Refused q) = refuses (number_of q)
 
 -- the descriptors that are expected: for SCAN and FORCE_SCAN, for GET_INFO, for GET_HEALTH
 unfoldable pub scan_descriptor : List ℕ

@@ -1,13 +1,11 @@
 -- Single replies. Info, 20 bytes: model, firmware minor, firmware major, hardware, serial (16). Health, 3 bytes: status, error code (16 bits).
 use Rattle.std.specs.Prelude.{ℕ, Bool, not, ◌&&◌, List, [], ◌∷◌, ltb, leb, eqb, length, get_or, drop, replicate}
-use Rattle.paper.specs.Outcome.{Outcome, gives, refuses, refuse_if}
+use Rattle.paper.specs.Outcome.{Outcome, gives, refuse_if}
 use Rattle.paper.specs.Refusals.{number_of}
 use Rattle.paper.specs.Words.{value_of, bytes_of}
 use Rattle.paper.specs.declared.refusal.Refusal.TheVariants.{NotAReply}
 use Rattle.wire.specs.declared.reply.Info.{Info}
 use Rattle.wire.specs.declared.reply.Health.{Health}
-use Rattle.wire.specs.declared.reply.HealthRead.{HealthRead}
-use Rattle.wire.specs.declared.reply.HealthRead.TheVariants as read
 
 unfoldable pub info_in : List ℕ → Info
 info_in xs = record {
@@ -22,7 +20,7 @@ info_in xs = record {
 unfoldable pub info_of : List ℕ → Outcome Info
 info_of xs = refuse_if (not (eqb (length xs) 20)) (number_of NotAReply) (gives (info_in xs))
 
--- the info beside a refusal
+-- the info that stands where none is given
 unfoldable pub blank : Info
 blank = record { model = 0; minor = 0; major = 0; hardware = 0; serial = replicate 16 0 }
 
@@ -47,8 +45,3 @@ health_of xs = refuse_if (not (is_health xs)) (number_of NotAReply) (gives (heal
 -- writing health
 unfoldable pub bytes_of_health : Health → Outcome (List ℕ)
 bytes_of_health h = refuse_if (ltb error_status h.status) (number_of NotAReply) (gives (h.status ∷ bytes_of 2 h.error))
-
--- what the code's answer means
-unfoldable pub health_read : HealthRead → Outcome Health
-health_read (read.Gives h) = gives h
-health_read (read.Refused q) = refuses (number_of q)

@@ -4,20 +4,14 @@ ghost use Rattle.wire.specs.Descriptor.{bytes_of_descriptor};
 ghost use Rattle.wire.specs.Promises.{DescriptorIsRead};
 
 use crate::request::Request;
-use paper::refusal::{Refusal, Written};
+use paper::refusal::Refusal;
 use paper::{word, write};
 
-#[derive(Clone, Copy)]
+#[derive(Clone, Copy, Debug, PartialEq, Eq)]
 pub struct Descriptor {
     pub length: u32,
     pub mode: u8,
     pub kind: u8,
-}
-
-#[derive(Clone, Copy)]
-pub enum DescriptorRead {
-    Gives(Descriptor),
-    Refused(Refusal),
 }
 
 impl Descriptor {
@@ -34,42 +28,42 @@ impl Descriptor {
 
     pub const HEALTH: [u8; 7] = [Request::START, Self::FLAG, 0x03, 0, 0, 0, 0x06];
 
-    pub fn read(bytes: &[u8]) -> DescriptorRead
+    pub fn read(bytes: &[u8]) -> Result<Descriptor, Refusal>
         ensures { DescriptorIsRead bytes.now result }
     {
         if bytes.len() != 7 {
-            return DescriptorRead::Refused(Refusal::NotADescriptor);
+            return Err(Refusal::NotADescriptor);
         }
         if bytes[0] != Request::START {
-            return DescriptorRead::Refused(Refusal::NotADescriptor);
+            return Err(Refusal::NotADescriptor);
         }
         if bytes[1] != Descriptor::FLAG {
-            return DescriptorRead::Refused(Refusal::NotADescriptor);
+            return Err(Refusal::NotADescriptor);
         }
         let w = word::word32(bytes[2], bytes[3], bytes[4], bytes[5]);
         let mode = w / Descriptor::LENGTHS;
         if 1 < mode {
-            return DescriptorRead::Refused(Refusal::NotADescriptor);
+            return Err(Refusal::NotADescriptor);
         }
-        DescriptorRead::Gives(Descriptor {
+        Ok(Descriptor {
             length: w % Descriptor::LENGTHS,
             mode: mode as u8,
             kind: bytes[6],
         })
     }
 
-    pub fn write(self, out: &mut [u8]) -> Written
+    pub fn write(self, out: &mut [u8]) -> Result<usize, Refusal>
         ensures { Writes (bytes_of_descriptor self) out.old result out.new }
     {
         let length = self.length;
         let mode = self.mode;
         if 1 < mode {
-            return Written::Refused(Refusal::NotADescriptor);
+            return Err(Refusal::NotADescriptor);
         }
         if Descriptor::LENGTHS <= length {
-            return Written::Refused(Refusal::NotADescriptor);
+            return Err(Refusal::NotADescriptor);
         }
-        let w = word::bytes32(length + mode as u32 * Descriptor::LENGTHS);
+        let w = word::bytes32(length + u32::from(mode) * Descriptor::LENGTHS);
         let bytes = [
             Request::START,
             Descriptor::FLAG,

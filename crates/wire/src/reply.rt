@@ -3,10 +3,10 @@ ghost use Rattle.paper.specs.Writing.{Writes};
 ghost use Rattle.wire.specs.Reply.{bytes_of_info, bytes_of_health};
 ghost use Rattle.wire.specs.Promises.{InfoIsRead, HealthIsRead};
 
-use paper::refusal::{Answer, Refusal, Written};
+use paper::refusal::Refusal;
 use paper::{word, write};
 
-#[derive(Clone, Copy)]
+#[derive(Clone, Copy, Debug, PartialEq, Eq)]
 pub struct Info {
     pub model: u8,
     // Of the firmware.
@@ -17,64 +17,38 @@ pub struct Info {
     pub serial: [u8; 16],
 }
 
-// The info where the answer is Done, and a blank one where it is refused.
-#[derive(Clone, Copy)]
-pub struct InfoRead {
-    pub answer: Answer,
-    pub info: Info,
-}
-
-#[derive(Clone, Copy)]
+#[derive(Clone, Copy, Debug, PartialEq, Eq)]
 pub struct Health {
     pub status: u8,
     // The error code.
     pub error: u16,
 }
 
-#[derive(Clone, Copy)]
-pub enum HealthRead {
-    Gives(Health),
-    Refused(Refusal),
-}
-
 impl Info {
     pub const BYTES: usize = 20;
 
-    pub fn read(bytes: &[u8]) -> InfoRead
+    pub fn read(bytes: &[u8]) -> Result<Info, Refusal>
         ensures { InfoIsRead bytes.now result }
     {
+        if bytes.len() != Info::BYTES {
+            return Err(Refusal::NotAReply);
+        }
         let mut serial = [0u8; 16];
-        if bytes.len() != 20 {
-            return InfoRead {
-                answer: Answer::Refused(Refusal::NotAReply),
-                info: Info {
-                    model: 0,
-                    minor: 0,
-                    major: 0,
-                    hardware: 0,
-                    serial,
-                },
-            };
-        }
-        write::write(&bytes[4..], &mut serial);
-        InfoRead {
-            answer: Answer::Done,
-            info: Info {
-                model: bytes[0],
-                minor: bytes[1],
-                major: bytes[2],
-                hardware: bytes[3],
-                serial,
-            },
-        }
+        serial.copy_from_slice(&bytes[4..]);
+        Ok(Info {
+            model: bytes[0],
+            minor: bytes[1],
+            major: bytes[2],
+            hardware: bytes[3],
+            serial,
+        })
     }
 
-    pub fn write(self, out: &mut [u8]) -> Written
+    pub fn write(self, out: &mut [u8]) -> Result<usize, Refusal>
         ensures { Writes (bytes_of_info self) out.old result out.new }
     {
         let head = [self.model, self.minor, self.major, self.hardware];
-        let serial = self.serial;
-        write::write_both(&head, &serial, out)
+        write::write_both(&head, &self.serial, out)
     }
 }
 
@@ -84,28 +58,28 @@ impl Health {
     // The highest status.
     pub const ERROR: u8 = 2;
 
-    pub fn read(bytes: &[u8]) -> HealthRead
+    pub fn read(bytes: &[u8]) -> Result<Health, Refusal>
         ensures { HealthIsRead bytes.now result }
     {
-        if bytes.len() != 3 {
-            return HealthRead::Refused(Refusal::NotAReply);
+        if bytes.len() != Health::BYTES {
+            return Err(Refusal::NotAReply);
         }
         let status = bytes[0];
         if Health::ERROR < status {
-            return HealthRead::Refused(Refusal::NotAReply);
+            return Err(Refusal::NotAReply);
         }
-        HealthRead::Gives(Health {
+        Ok(Health {
             status,
             error: word::word16(bytes[1], bytes[2]),
         })
     }
 
-    pub fn write(self, out: &mut [u8]) -> Written
+    pub fn write(self, out: &mut [u8]) -> Result<usize, Refusal>
         ensures { Writes (bytes_of_health self) out.old result out.new }
     {
         let status = self.status;
         if Health::ERROR < status {
-            return Written::Refused(Refusal::NotAReply);
+            return Err(Refusal::NotAReply);
         }
         let code = word::bytes16(self.error);
         let bytes = [status, code[0], code[1]];

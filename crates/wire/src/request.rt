@@ -5,15 +5,15 @@ ghost use Rattle.paper.specs.Writing.{Writes};
 ghost use Rattle.wire.specs.Request.{stop_code, reset_code, scan_code, force_scan_code, get_info_code, get_health_code, start_byte, request_of, with_sum};
 ghost use Rattle.wire.specs.Promises.{Constructed, KindGiven};
 
-use paper::refusal::{Refusal, Written};
+use paper::refusal::Refusal;
 use paper::{sum, write};
 
 // A request by its code: any of the 256, of which six have a name.
-#[derive(Clone, Copy)]
+#[derive(Clone, Copy, Debug, PartialEq, Eq)]
 pub struct Request(pub u8);
 
 // Which of the six a request is.
-#[derive(Clone, Copy)]
+#[derive(Clone, Copy, Debug, PartialEq, Eq)]
 pub enum Kind {
     Stop,
     Reset,
@@ -90,70 +90,52 @@ impl Request {
         Request(Self::GET_HEALTH)
     }
 
+    #[tactic(auto, unfolding(crate::specs::Request::kind_of))]
     pub fn kind(self) -> Kind
         ensures { KindGiven self result }
     {
-        let code = self.0;
-        if code == Request::STOP {
-            return Kind::Stop;
+        match self.0 {
+            Request::STOP => Kind::Stop,
+            Request::RESET => Kind::Reset,
+            Request::SCAN => Kind::Scan,
+            Request::FORCE_SCAN => Kind::ForceScan,
+            Request::GET_INFO => Kind::GetInfo,
+            Request::GET_HEALTH => Kind::GetHealth,
+            _ => Kind::Other,
         }
-        if code == Request::RESET {
-            return Kind::Reset;
-        }
-        if code == Request::SCAN {
-            return Kind::Scan;
-        }
-        if code == Request::FORCE_SCAN {
-            return Kind::ForceScan;
-        }
-        if code == Request::GET_INFO {
-            return Kind::GetInfo;
-        }
-        if code == Request::GET_HEALTH {
-            return Kind::GetHealth;
-        }
-        Kind::Other
     }
 
     // The request's bytes, with its payload.
-    #[tactic(auto, unfolding(crate::specs::Request::request_of, paper::specs::Outcome::refuse_if, paper::specs::Outcome::if_given, paper::specs::Outcome::mapped, paper::specs::Refusals::written, paper::specs::Writing::fitting))]
-    pub fn write(self, payload: &[u8], out: &mut [u8]) -> Written
+    #[tactic(auto, unfolding(crate::specs::Request::request_of, paper::specs::Outcome::refuse_if, paper::specs::Outcome::if_given, paper::specs::Outcome::mapped, paper::specs::Refusals::outcome, paper::specs::Writing::fitting))]
+    pub fn write(self, payload: &[u8], out: &mut [u8]) -> Result<usize, Refusal>
         ensures { Writes (request_of self.0 payload.now) out.old result out.new }
     {
         let code = self.0;
         if code < Request::WITH_PAYLOAD {
             if 0 < payload.len() {
-                return Written::Refused(Refusal::CodeNotPermitted);
+                return Err(Refusal::CodeNotPermitted);
             }
             let bytes = [Request::START, code];
             return write::write(&bytes, out);
         }
         if Request::MOST_PAYLOAD < payload.len() {
-            return Written::Refused(Refusal::CodeNotPermitted);
+            return Err(Refusal::CodeNotPermitted);
         }
         long(code, payload, out)
     }
 }
 
-fn size(n: usize) -> u8
-    requires { n ≤ 255 }
-    ensures { result ≡ n }
-{
-    n as u8
-}
-
 // A request with a size, a payload and a checksum.
-fn long(code: u8, payload: &[u8], out: &mut [u8]) -> Written
+fn long(code: u8, payload: &[u8], out: &mut [u8]) -> Result<usize, Refusal>
     requires { length payload.now ≤ 255 }
     ensures { Writes (gives (with_sum (start_byte ∷ code ∷ length payload.now ∷ payload.now))) out.old result out.new }
 {
     let n = payload.len();
     if out.len() < n + 4 {
-        return Written::Refused(Refusal::OutputShort);
+        return Err(Refusal::OutputShort);
     }
-    let head = [Request::START, code, size(n)];
-    write::write_both(&head, payload, out);
-    let end = n + 3;
+    let head = [Request::START, code, n as u8];
+    let end = write::write_both(&head, payload, out)?;
     out[end] = sum::sum(&out[..end]);
-    Written::Bytes(n + 4)
+    Ok(end + 1)
 }

@@ -4,22 +4,16 @@ ghost use Rattle.paper.specs.Writing.{Writes};
 ghost use Rattle.wire.specs.Sample.{angle_in, fit, first_byte, mark, bytes_of_sample, words_of_sample};
 ghost use Rattle.wire.specs.Promises.{SampleIsRead, WordsAreRead};
 
-use paper::refusal::{Refusal, Written};
+use paper::refusal::Refusal;
 use paper::unit::{AngleQ6, DistanceQ2};
 use paper::{word, write};
 
-#[derive(Clone, Copy)]
+#[derive(Clone, Copy, Debug, PartialEq, Eq)]
 pub struct Sample {
     pub start: bool,
     pub quality: u8,
     pub angle: AngleQ6,
     pub distance: DistanceQ2,
-}
-
-#[derive(Clone, Copy)]
-pub enum SampleRead {
-    Gives(Sample),
-    Refused(Refusal),
 }
 
 impl Sample {
@@ -33,37 +27,37 @@ impl Sample {
     pub const QUALITIES: u16 = 64;
 
     // Of exactly five bytes.
-    pub fn read(bytes: &[u8]) -> SampleRead
+    pub fn read(bytes: &[u8]) -> Result<Sample, Refusal>
         ensures { SampleIsRead bytes.now result }
     {
-        if bytes.len() != 5 {
-            return SampleRead::Refused(Refusal::NotASample);
+        if bytes.len() != Sample::BYTES {
+            return Err(Refusal::NotASample);
         }
         Sample::front(bytes)
     }
 
     // Of the first five bytes of a part. All are read before the checks, so that these can be made together.
-    #[tactic(auto, unfolding(crate::specs::Sample::sample_read, crate::specs::Sample::sample_of, crate::specs::Sample::is_sample, crate::specs::Sample::passes, crate::specs::Sample::sample_in, paper::specs::Outcome::refuse_if))]
-    pub fn front(part: &[u8]) -> SampleRead
+    #[tactic(auto, unfolding(paper::specs::Refusals::outcome, crate::specs::Sample::sample_of, crate::specs::Sample::is_sample, crate::specs::Sample::passes, crate::specs::Sample::sample_in, paper::specs::Outcome::refuse_if))]
+    pub fn front(part: &[u8]) -> Result<Sample, Refusal>
         ensures { SampleIsRead (take 5 part.now) result }
     {
-        if part.len() < 5 {
-            return SampleRead::Refused(Refusal::NotASample);
+        if part.len() < Sample::BYTES {
+            return Err(Refusal::NotASample);
         }
         let b0 = part[0];
         let b1 = part[1];
         let angle = angle_of(b1, part[2]);
         let distance = word::word16(part[3], part[4]);
         if b0 % 2 == b0 / 2 % 2 {
-            return SampleRead::Refused(Refusal::NotASample);
+            return Err(Refusal::NotASample);
         }
         if b1 % 2 == 0 {
-            return SampleRead::Refused(Refusal::NotASample);
+            return Err(Refusal::NotASample);
         }
         if Sample::ANGLES <= angle {
-            return SampleRead::Refused(Refusal::NotASample);
+            return Err(Refusal::NotASample);
         }
-        SampleRead::Gives(Sample {
+        Ok(Sample {
             start: b0 % 2 == 1,
             quality: b0 / 4,
             angle: AngleQ6(angle),
@@ -72,14 +66,14 @@ impl Sample {
     }
 
     // Of its three words.
-    pub fn read_words(angle: u16, distance: u16, mark: u16) -> SampleRead
+    pub fn read_words(angle: u16, distance: u16, mark: u16) -> Result<Sample, Refusal>
         ensures { WordsAreRead (angle ∷ distance ∷ mark ∷ []) result }
     {
         let quality = mark / 2;
         if !fits(angle, quality) {
-            return SampleRead::Refused(Refusal::NotASample);
+            return Err(Refusal::NotASample);
         }
-        SampleRead::Gives(Sample {
+        Ok(Sample {
             start: mark % 2 == 1,
             quality: quality as u8,
             angle: AngleQ6(angle),
@@ -87,19 +81,19 @@ impl Sample {
         })
     }
 
-    pub fn write(self, out: &mut [u8]) -> Written
+    pub fn write(self, out: &mut [u8]) -> Result<usize, Refusal>
         ensures { Writes (bytes_of_sample self) out.old result out.new }
     {
         let angle = self.angle.0;
         let quality = self.quality;
-        if !fits(angle, wide(quality)) {
-            return Written::Refused(Refusal::NotASample);
+        if !fits(angle, u16::from(quality)) {
+            return Err(Refusal::NotASample);
         }
         let d = word::bytes16(self.distance.0);
         let bytes = [
             first_byte(self.start, quality),
-            low(angle % 128 * 2 + 1),
-            low(angle / 128),
+            (angle % 128 * 2 + 1) as u8,
+            (angle / 128) as u8,
             d[0],
             d[1],
         ];
@@ -107,21 +101,21 @@ impl Sample {
     }
 
     // Its words at the front of a lent row.
-    pub fn write_words(self, row: &mut [u16]) -> Written
+    pub fn write_words(self, row: &mut [u16]) -> Result<usize, Refusal>
         ensures { Writes (words_of_sample self) row.old result row.new }
     {
         let angle = self.angle.0;
         let quality = self.quality;
-        if !fits(angle, wide(quality)) {
-            return Written::Refused(Refusal::NotASample);
+        if !fits(angle, u16::from(quality)) {
+            return Err(Refusal::NotASample);
         }
-        if row.len() < 3 {
-            return Written::Refused(Refusal::OutputShort);
+        if row.len() < Sample::WORDS {
+            return Err(Refusal::OutputShort);
         }
         row[0] = angle;
         row[1] = self.distance.0;
         row[2] = mark_of(self.start, quality);
-        Written::Bytes(3)
+        Ok(Sample::WORDS)
     }
 }
 
@@ -135,24 +129,11 @@ fn fits(angle: u16, quality: u16) -> bool
     quality < Sample::QUALITIES
 }
 
-fn wide(b: u8) -> u16
-    ensures { (result ≡ b) × (result < 256) }
-{
-    b as u16
-}
-
-fn low(x: u16) -> u8
-    requires { x < 256 }
-    ensures { result ≡ x }
-{
-    x as u8
-}
-
 // Bytes 1 and 2 without the check bit.
 fn angle_of(b1: u8, b2: u8) -> u16
     ensures { result ≡ angle_in b1 b2 }
 {
-    wide(b1) / 2 + wide(b2) * 128
+    u16::from(b1) / 2 + u16::from(b2) * 128
 }
 
 fn first_byte(start: bool, quality: u8) -> u8
@@ -170,9 +151,5 @@ fn first_byte(start: bool, quality: u8) -> u8
 fn mark_of(start: bool, quality: u8) -> u16
     ensures { result ≡ mark start quality }
 {
-    if start {
-        wide(quality) * 2 + 1
-    } else {
-        wide(quality) * 2
-    }
+    u16::from(quality) * 2 + u16::from(start)
 }

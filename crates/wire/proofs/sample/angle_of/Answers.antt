@@ -4,4 +4,4 @@ use Rattle.wire.proofs.sample.angle_of.Goals as goal
 
 pub returns : goal.returns
 unfolding angle_in
-returns c = rw (c.wide.ensures.0, c.wide-2.ensures.0)
+returns c = rw (c.from.ensures, c.from-2.ensures)

@@ -1,12 +1,15 @@
 -- `wire::sample::mark_of` meets its promise.
-use native.Mathlib.Omega.{arith}
+use Prim.Native.Nat.{ℕ, ◌+◌, ◌*◌}
+use mathlib.Core.Path.{◌≡◌, refl}
+use mathlib.Core.Bool.{Bool, true, false}
+use mir.Val.{bool_byte}
 use Rattle.wire.specs.Sample.{mark}
 use Rattle.wire.proofs.sample.mark_of.Goals as goal
 
-pub returns-then-start : goal.returns-then-start
+one_more : (t : Bool) (q : ℕ) → q * 2 + bool_byte t ≡ mark t q
 unfolding mark
-returns-then-start c = rw (c.if-start.true, c.wide.ensures.0)
+one_more true q = refl
+one_more false q = refl
 
-pub returns-else-start : goal.returns-else-start
-unfolding mark
-returns-else-start c = rw (c.if-start.false, c.wide-else-start.ensures.0) (omega arith)
+pub returns : goal.returns
+returns c = rw (c.from-2.ensures, c.from.ensures) (one_more c.args.start c.args.quality)

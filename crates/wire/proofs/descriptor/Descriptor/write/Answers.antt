@@ -10,4 +10,4 @@ pub returns-then-length-ge-LENGTHS : goal.returns-then-length-ge-LENGTHS
 returns-then-length-ge-LENGTHS c = writes_no (length_over _ c.if-mode-gt1.false c.if-length-ge-LENGTHS.true)
 
 pub returns : goal.returns
-returns c = writes_yes (bytes_given _ c.if-mode-gt1.false c.if-length-ge-LENGTHS.false) (seven _ _ c.bytes32-w.ensures.answer) c.write.ensures
+returns c = writes_yes (bytes_given _ c.if-mode-gt1.false c.if-length-ge-LENGTHS.false) (seven _ _ (rw c.from.ensures at c.bytes32-w.ensures.answer)) c.write.ensures
