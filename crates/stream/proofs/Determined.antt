@@ -3,14 +3,14 @@ use mathlib.Core.Path.{◌≡◌, refl, sym, ap, ◌∙◌}
 use mathlib.Core.List.{List, [], ◌∷◌}
 use Prim.Native.Nat.{ℕ}
 use lib.ListN.{get_or}
-use Rattle.paper.specs.declared.refusal.Answer.{Answer}
-use Rattle.paper.proofs.Refusals.{answered_one}
+use Rattle.std.specs.Prelude.{Result}
+use Rattle.paper.specs.declared.refusal.Refusal.{Refusal}
+use Rattle.paper.proofs.Refusals.{outcome_one}
 use Rattle.wire.specs.declared.request.Request.{Request}
 use Rattle.stream.specs.declared.Stop.{Stop}
 use Rattle.stream.specs.declared.Stop.TheVariants.{AllTaken, NoRoom, Descriptor, Reply, BadHealth}
 use Rattle.stream.specs.declared.Reader.{Reader}
 use Rattle.stream.specs.declared.Reading.{Reading}
-use Rattle.stream.specs.declared.Told.{Told}
 use Rattle.stream.specs.Stops.{stop_number}
 use Rattle.stream.specs.Promises.{Made, Reads, Tells}
 
@@ -48,10 +48,5 @@ reads_determined {r = r} {s = s} p q = (
   p.row ∙ sym q.row,
 )
 
-same_told : (r s : Told) → r.reader ≡ s.reader → r.answer ≡ s.answer → r ≡ s
-same_told r s a b =
-    ap (λ (x : Reader). record { reader = x; answer = r.answer }) a
-    ∙ ap (λ (x : Answer). record { reader = s.reader; answer = x }) b
-
-pub tells_determined : {self : Reader} {q : Request} {r s : Told} → Tells self q r → Tells self q s → r ≡ s
-tells_determined {r = r} {s = s} p q = same_told r s (p.reader ∙ sym q.reader) (answered_one r.answer s.answer (p.answer ∙ sym q.answer))
+pub tells_determined : {self : Reader} {q : Request} {r s : Result Reader Refusal} → Tells self q r → Tells self q s → r ≡ s
+tells_determined {r = r} {s = s} p q = outcome_one r s (p.answer ∙ sym q.answer)

@@ -10,11 +10,11 @@ use native.Mathlib.Omega.{arith}
 use lib.ListN.{length, take, drop, replicate}
 use lib.Seq.{take_at}
 use Rattle.paper.specs.Outcome.{Outcome, gives, refuses, if_given, mapped}
-use Rattle.paper.specs.Refusals.{answered}
+use Rattle.std.specs.Prelude.{Result as Answered, Ok, Err}
+use Rattle.paper.specs.Refusals.{outcome}
 use Rattle.paper.specs.Writing.{over as over_row}
-use Rattle.paper.specs.declared.refusal.Answer.{Answer}
-use Rattle.paper.specs.declared.refusal.Answer.TheVariants as answer
-use Rattle.paper.proofs.Outcome.{gives_refuses}
+use Rattle.paper.specs.declared.refusal.Refusal.{Refusal}
+use Rattle.paper.proofs.Outcome.{gives_one, gives_refuses}
 use Rattle.framing.specs.Framing.{State, fresh, fed}
 use Rattle.framing.specs.Run.{Result, run, skipped}
 use Rattle.framing.specs.Calls.{outputs, Stop as Reason, all_taken, ended_by, no_room, Answer as CallAnswer}
@@ -30,15 +30,15 @@ use Rattle.stream.specs.declared.Phase.{Phase}
 use Rattle.stream.specs.declared.Phase.TheVariants.{Idle}
 use Rattle.stream.specs.declared.Reader.{Reader}
 use Rattle.stream.specs.declared.Reading.{Reading}
-use Rattle.stream.specs.declared.Told.{Told}
 use Rattle.stream.specs.Table.{Event, Thing, headed, replied, unread, point, width, reader, giving, ends_call, row_of}
 use Rattle.stream.specs.State.{held_of, meaning, twenty, capped, written, idle}
 use Rattle.stream.specs.Stops.{reply_for, stop_of}
-use Rattle.stream.specs.Telling.{opens, told_reader, begins}
+use Rattle.stream.specs.Telling.{opens, begun, told_reader, after, begins}
 use Rattle.stream.specs.Promises.{called, row_given, Reads, Tells}
 use Rattle.stream.specs.History.{Seen, word, taken, notice_by, seen_by, told_by, seen_of, History, over, reads, tells, Plain}
 use Rattle.stream.proofs.Table.{width_pos, reader_lawful, by_window, one_thing}
 use Rattle.stream.proofs.Determined.{stop_one}
+use Rattle.stream.proofs.Telling.{tells_after}
 use Rattle.stream.proofs.inner.Hold.{capped_capped}
 use Rattle.stream.proofs.inner.Promise.{waits}
 
@@ -159,22 +159,19 @@ used_taken {s} {t} {z} q p e g u =
     }
 
 -- a request that is refused
-used_refused : {s t z : Reader} {xs : List Seen} {is : List (Input Request)} (q : Request) (n : ℕ) → opens q ≡ refuses n → t ≡ s → Used t is xs z → Used s (told q ∷ is) xs z
+used_refused : {s z : Reader} {xs : List Seen} {is : List (Input Request)} (q : Request) (n : ℕ) → opens q ≡ refuses n → Used s is xs z → Used s (told q ∷ is) xs z
 unfolding begins if_given
-used_refused {s} {t} {z} {xs} {is} q n e g u =
-    let v : Used s is xs z = rw g at u in
-    record { hs = v.hs; ys = v.ys; uses = refusing q (rw e) v.uses; seen = v.seen; skip = v.skip }
+used_refused q n e u = record { hs = u.hs; ys = u.ys; uses = refusing q (rw e) u.uses; seen = u.seen; skip = u.skip }
 
-used_tell : {s z : Reader} {xs : List Seen} {is : List (Input Request)} (q : Request) (t : Told) → Tells s q t → Used t.reader is xs z → Used s (told q ∷ is) (told_by q t.answer ++ xs) z
-unfolding if_given mapped answered told_by told_reader
-used_tell {s} {z} {xs} {is} q t h u = by (opens q) t.answer refl h.answer h.reader
+used_tell : {s z : Reader} {xs : List Seen} {is : List (Input Request)} (q : Request) (t : Answered Reader Refusal) → Tells s q t → Used (after s t) is xs z → Used s (told q ∷ is) (told_by q t ++ xs) z
+unfolding mapped outcome told_by after
+used_tell {s} {z} {xs} {is} q t h = by (opens q) t refl h.answer
   where
-    by : (o : Outcome Phase) (x : Answer) → opens q ≡ o → answered x ≡ mapped (λ p. tt) o → t.reader ≡ if_given o (λ p. written (fresh p) (s.skipped + length (held_of s))) s
-        → Used s (told q ∷ is) (told_by q x ++ xs) z
-    by (gives p) answer.Done e f g = used_taken q p e g u
-    by (gives p) (answer.Refused n) e f g = absurd (gives_refuses (sym f))
-    by (refuses n) answer.Done e f g = absurd (gives_refuses f)
-    by (refuses n) (answer.Refused m) e f g = used_refused q n e g u
+    by : (o : Outcome Phase) (x : Answered Reader Refusal) → opens q ≡ o → outcome x ≡ mapped (begun s) o → Used (after s x) is xs z → Used s (told q ∷ is) (told_by q x ++ xs) z
+    by (gives p) (Ok r) e f u = used_taken q p e (gives_one f) u
+    by (gives p) (Err n) e f u = absurd (gives_refuses (sym f))
+    by (refuses n) (Ok r) e f u = absurd (gives_refuses f)
+    by (refuses n) (Err m) e f u = used_refused q n e u
 
 used : {s z : Reader} {is : List (Input Request)} {xs : List Seen} → History s is xs z → Used s is xs z
 unfolding flat_map lost
@@ -231,7 +228,7 @@ pub idle_plain : Plain idle
 unfolding idle
 idle_plain = plain_written (fresh Idle) 0 (width_pos Idle)
 
-plain_told : (s : Reader) (o : Outcome Phase) → Plain s → Plain (if_given o (λ p. written (fresh p) (s.skipped + length (held_of s))) s)
+plain_told : (s : Reader) (o : Outcome Phase) → Plain s → Plain (if_given o (begun s) s)
 unfolding if_given
 plain_told s (gives p) h = plain_written (fresh p) (s.skipped + length (held_of s)) (width_pos p)
 plain_told s (refuses n) h = h
@@ -239,7 +236,7 @@ plain_told s (refuses n) h = h
 pub history_plain : {s z : Reader} {is : List (Input Request)} {xs : List Seen} → History s is xs z → Plain s → Plain z
 history_plain over p = p
 history_plain (reads {s} input was row r is h u) p = history_plain u (rw h.reader (plain_written (called s input was).result.end _ (end_few h)))
-history_plain (tells {s} q t h u) p = history_plain u (rw h.reader (unfold told_reader in plain_told s (opens q) p))
+history_plain (tells {s} q t h u) p = history_plain u (rw (tells_after h) (unfold told_reader in plain_told s (opens q) p))
 
 -- CUT ANYWHERE: two histories of one stream, from one plain reader, see the same and end in the same reader
 pub cut_anywhere : {s y z : Reader} {is : List (Input Request)} {xs ys : List Seen} → Plain s → History s is xs y → History s is ys z → (xs ≡ ys) × (y ≡ z)

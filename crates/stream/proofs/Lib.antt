@@ -2,6 +2,7 @@
 pub mod Table
 pub mod Readings
 pub mod Determined
+pub mod Telling
 pub mod History
 pub mod GoesOn
 pub mod Stops

@@ -1,7 +1,6 @@
 -- A reader in use: calls and tellings one after another, and what its caller sees of them in order.
-use Rattle.std.specs.Prelude.{◌≡◌, List, [], ◌∷◌, ◌++◌, map, ℕ, take, drop}
-use Rattle.paper.specs.declared.refusal.Answer.{Answer}
-use Rattle.paper.specs.declared.refusal.Answer.TheVariants as answer
+use Rattle.std.specs.Prelude.{◌≡◌, List, [], ◌∷◌, ◌++◌, map, ℕ, take, drop, Result, Ok, Err}
+use Rattle.paper.specs.declared.refusal.Refusal.{Refusal}
 use Rattle.framing.specs.Stream.{Input, byte, told, Shown, gave, asked}
 use Rattle.wire.specs.declared.request.Request.{Request}
 use Rattle.wire.specs.Sample.{words_of}
@@ -9,10 +8,10 @@ use Rattle.stream.specs.declared.Stop.{Stop}
 use Rattle.stream.specs.declared.Stop.TheVariants.{AllTaken, NoRoom, Descriptor, Reply, BadHealth}
 use Rattle.stream.specs.declared.Reader.{Reader}
 use Rattle.stream.specs.declared.Reading.{Reading}
-use Rattle.stream.specs.declared.Told.{Told}
 use Rattle.stream.specs.Table.{Thing, headed, replied, unread, point}
 use Rattle.stream.specs.State.{meaning, twenty, written}
 use Rattle.stream.specs.Stops.{stop_number}
+use Rattle.stream.specs.Telling.{after}
 use Rattle.stream.specs.Promises.{Reads, Tells}
 
 -- what a caller sees: a word in its row; a stop of number 2, 3 or 4 with its twenty bytes; that a request was taken
@@ -33,9 +32,9 @@ unfoldable pub seen_by : Reading → List ℕ → List Seen
 seen_by r row = map word (take r.words row) ++ notice_by r.stop r.reply
 
 -- of an answer of `tell`
-unfoldable pub told_by : Request → Answer → List Seen
-told_by q answer.Done = taken q ∷ []
-told_by q (answer.Refused r) = []
+unfoldable pub told_by : Request → Result Reader Refusal → List Seen
+told_by q (Ok r) = taken q ∷ []
+told_by q (Err e) = []
 
 -- of what the stream shows by definition
 unfoldable pub seen_of : Shown Request Thing → List Seen
@@ -51,8 +50,8 @@ pub data History : Reader → List (Input Request) → List Seen → Reader → 
   over : {s : Reader} → History s [] [] s
   reads : {s z : Reader} {xs : List Seen} (input was row : List ℕ) (r : Reading) (is : List (Input Request)) → Reads s input was r row
       → History r.reader (map byte (drop r.taken input) ++ is) xs z → History s (map byte input ++ is) (seen_by r row ++ xs) z
-  tells : {s z : Reader} {xs : List Seen} {is : List (Input Request)} (q : Request) (t : Told) → Tells s q t
-      → History t.reader is xs z → History s (told q ∷ is) (told_by q t.answer ++ xs) z
+  tells : {s z : Reader} {xs : List Seen} {is : List (Input Request)} (q : Request) (t : Result Reader Refusal) → Tells s q t
+      → History (after s t) is xs z → History s (told q ∷ is) (told_by q t ++ xs) z
 
 -- a reader as `new`, `read` and `tell` make it: what it does not use is 0
 unfoldable pub Plain : Reader → Type 0

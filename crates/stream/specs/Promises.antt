@@ -1,20 +1,20 @@
 -- What each public function of the reader promises.
-use Rattle.std.specs.Prelude.{◌≡◌, ℕ, ◌+◌, length}
+use Rattle.std.specs.Prelude.{◌≡◌, ℕ, ◌+◌, length, Result}
 use mathlib.Core.List.{List, [], flat_map}
 use Rattle.paper.specs.Outcome.{mapped}
-use Rattle.paper.specs.Refusals.{answered}
+use Rattle.paper.specs.Refusals.{outcome}
+use Rattle.paper.specs.declared.refusal.Refusal.{Refusal}
 use Rattle.paper.specs.Writing.{over}
 use Rattle.framing.specs.Run.{skipped}
 use Rattle.framing.specs.Calls.{Answer, call}
 use Rattle.stream.specs.declared.Phase.{Phase}
 use Rattle.stream.specs.declared.Reader.{Reader}
 use Rattle.stream.specs.declared.Reading.{Reading}
-use Rattle.stream.specs.declared.Told.{Told}
 use Rattle.wire.specs.declared.request.Request.{Request}
 use Rattle.stream.specs.Table.{Event, Thing, reader, giving, row_of}
 use Rattle.stream.specs.State.{meaning, twenty, written, idle}
 use Rattle.stream.specs.Stops.{stop_number, stop_of, reply_for}
-use Rattle.stream.specs.Telling.{opens, told_reader}
+use Rattle.stream.specs.Telling.{opens, begun}
 
 -- `Reader::new`
 pub record Made (r : Reader) : Type 0 where
@@ -38,6 +38,5 @@ pub record Reads (self : Reader) (input was : List ℕ) (r : Reading) (is : List
   pub row : is ≡ over was (row_given self input was)
 
 -- `Reader::tell`
-pub record Tells (self : Reader) (q : Request) (r : Told) : Type 0 where
-  pub answer : answered r.answer ≡ mapped (λ p. tt) (opens q)
-  pub reader : r.reader ≡ told_reader self q
+pub record Tells (self : Reader) (q : Request) (r : Result Reader Refusal) : Type 0 where
+  pub answer : outcome r ≡ mapped (begun self) (opens q)

@@ -1,8 +1,9 @@
 -- Being told a request: which phase it begins.
-use Rattle.std.specs.Prelude.{◌+◌, length}
+use Rattle.std.specs.Prelude.{◌+◌, length, Result, Ok, Err}
 use Rattle.std.proofs.Math.Option.{Option, none, some}
 use Rattle.paper.specs.Outcome.{Outcome, gives, refuses, if_given}
 use Rattle.paper.specs.Refusals.{number_of}
+use Rattle.paper.specs.declared.refusal.Refusal.{Refusal}
 use Rattle.paper.specs.declared.refusal.Refusal.TheVariants.{CodeNotPermitted}
 use Rattle.wire.specs.Request.{kind_of}
 use Rattle.wire.specs.declared.request.Request.{Request}
@@ -27,9 +28,18 @@ opening Other = refuses (number_of CodeNotPermitted)
 abbrev pub opens : Request → Outcome Phase
 opens q = opening (kind_of q.0)
 
--- the reader that is told a request: the bytes held are forgotten and count as skipped; a refusal gives back the very reader
+-- a reader that begins phase p: the bytes held are forgotten and count as skipped
+abbrev pub begun : Reader → Phase → Reader
+begun s p = written (fresh p) (s.skipped + length (held_of s))
+
+-- the reader that is told a request; a refused one leaves it as it was
 unfoldable pub told_reader : Reader → Request → Reader
-told_reader s q = if_given (opens q) (λ p. written (fresh p) (s.skipped + length (held_of s))) s
+told_reader s q = if_given (opens q) (begun s) s
+
+-- the reader after an answer: the answer's, and the very reader that was asked where it is refused
+unfoldable pub after : Reader → Result Reader Refusal → Reader
+after s (Ok r) = r
+after s (Err q) = s
 
 -- the same for the theory, to which a refused request begins nothing
 unfoldable pub begins : Request → Option Phase

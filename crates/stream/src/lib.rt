@@ -13,10 +13,10 @@ mod window;
 
 ghost use Rattle.stream.specs.Promises.{Made, Reads, Tells};
 
-use paper::refusal::{Answer, Refusal};
+use paper::refusal::Refusal;
 use wire::descriptor::Descriptor;
 use wire::reply::{Health, Info};
-use wire::request::{Kind, Request};
+use wire::request::Request;
 
 // What the reader waits for.
 #[derive(Clone, Copy)]
@@ -59,13 +59,6 @@ pub struct Reading {
     pub reply: [u8; 20],
 }
 
-// What telling a request answers: the reader after it, and whether the request was refused.
-#[derive(Clone, Copy)]
-pub struct Told {
-    pub reader: Reader,
-    pub answer: Answer,
-}
-
 impl Reader {
     // A fresh reader is idle.
     pub fn new() -> Reader
@@ -74,23 +67,12 @@ impl Reader {
         hold::empty(Phase::Idle, 0)
     }
 
-    // It is told each request sent; a code not of the six is refused, and gives back the very reader.
-    pub fn tell(self, request: Request) -> Told
+    // It is told each request sent; a code not of the six is refused.
+    pub fn tell(self, request: Request) -> Result<Reader, Refusal>
         ensures { Tells self request result }
     {
-        let kind = request.kind();
-        match kind {
-            Kind::Stop => tell::turned(self, Phase::Idle),
-            Kind::Reset => tell::turned(self, Phase::Idle),
-            Kind::Scan => tell::turned(self, Phase::SeekScan),
-            Kind::ForceScan => tell::turned(self, Phase::SeekScan),
-            Kind::GetInfo => tell::turned(self, Phase::SeekInfo),
-            Kind::GetHealth => tell::turned(self, Phase::SeekHealth),
-            Kind::Other => Told {
-                reader: self,
-                answer: Answer::Refused(Refusal::CodeNotPermitted),
-            },
-        }
+        let phase = tell::opening(request.kind())?;
+        Ok(tell::turned(self, phase))
     }
 
     // One call: any input, any row of words.

@@ -5,20 +5,14 @@ ghost use Rattle.stream.specs.inner.Account.{Comes};
 ghost use Rattle.stream.specs.inner.Reply.{bad, Replies};
 
 use crate::{Phase, Reading, Stop, hold};
-use wire::reply::{Health, HealthRead};
+use wire::reply::Health;
 
 // A reply of three bytes is a health reply, and may not read.
 fn is_bad(need: usize, joint: &[u8]) -> bool
     requires { 3 ≤ length joint.now }
     ensures { result ≡ bad need (take need joint.now) }
 {
-    if need != Health::BYTES {
-        return false;
-    }
-    match Health::read(&joint[..Health::BYTES]) {
-        HealthRead::Gives(_) => false,
-        HealthRead::Refused(_) => true,
-    }
+    need == Health::BYTES && Health::read(&joint[..Health::BYTES]).is_err()
 }
 
 // `joint` is the h bytes held and those of the input that the reply still needs, or as many as there are.

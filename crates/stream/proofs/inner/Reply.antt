@@ -14,10 +14,11 @@ use Rattle.framing.specs.Run.{events, skipped}
 use Rattle.framing.specs.Stages.{passes, spoiled, step_of}
 use Rattle.framing.specs.Calls.{outputs, ended_by}
 use Rattle.paper.specs.declared.refusal.Refusal.{Refusal}
-use Rattle.wire.specs.Reply.{health_of, health_read}
+use Rattle.std.specs.Prelude.{Result, Ok, Err}
+use Rattle.std.specs.Result.{is_err}
+use Rattle.paper.specs.Refusals.{outcome}
+use Rattle.wire.specs.Reply.{health_of}
 use Rattle.wire.specs.declared.reply.Health.{Health}
-use Rattle.wire.specs.declared.reply.HealthRead.{HealthRead}
-use Rattle.wire.specs.declared.reply.HealthRead.TheVariants as read
 use Rattle.wire.specs.Promises.{HealthIsRead}
 use Rattle.stream.specs.declared.Phase.{Phase}
 use Rattle.stream.specs.declared.Phase.TheVariants.{Idle, InfoReply, HealthReply}
@@ -79,13 +80,10 @@ pub bad_other : (need : ℕ) (w : List ℕ) → (need ≡ 3 → ⊥) → false �
 unfolding bad
 bad_other need w n = rw (ne_eqb _ _ n)
 
-pub bad_gives : (need : ℕ) (w : List ℕ) {r : HealthRead} {x : Health} → need ≡ 3 → HealthIsRead (take 3 w) r → r ≡ read.Gives x → false ≡ bad need (take need w)
-unfolding bad if_given health_read
-bad_gives need w e h f = let o = sym h.answer ∙ ap health_read f in rw (e, o)
-
-pub bad_refuses : (need : ℕ) (w : List ℕ) {r : HealthRead} {q : Refusal} → need ≡ 3 → HealthIsRead (take 3 w) r → r ≡ read.Refused q → true ≡ bad need (take need w)
-unfolding bad if_given health_read
-bad_refuses need w e h f = let o = sym h.answer ∙ ap health_read f in rw (e, o)
+pub bad_health_of : (need : ℕ) (w : List ℕ) (r : Result Health Refusal) → need ≡ 3 → HealthIsRead (take 3 w) r → is_err r ≡ bad need (take need w)
+unfolding bad if_given outcome
+bad_health_of need w (Ok x) e h = let o = sym h.answer in rw (e, o)
+bad_health_of need w (Err q) e h = let o = sym h.answer in rw (e, o)
 
 module _ {p : Phase} {need : ℕ} {joint : List ℕ} {h : ℕ} {input : List ℕ} (a : Replies p need joint h input) (k : ℕ) (small : k ≤ 4294967295) (ws : List ℕ) where
   -- too few bytes: all are held
