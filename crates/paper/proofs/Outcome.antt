@@ -1,4 +1,5 @@
--- Laws of outcomes. The ones to know: `gives_one` and `refuses_one` (a constructor's value is determined), `refuse_not` (what was not refused).
+-- Laws of outcomes. The ones to know: `gives_one` and `refuses_one` (a constructor's value is determined), `refuse_not` (what was not refused),
+-- `mapped_given` (what a value made of what is given was made of).
 use Prim.Native.Nat.{ℕ}
 use mathlib.Core.Path.{◌≡◌, refl, sym}
 use mathlib.Core.Bool.{Bool, true, false}
@@ -29,13 +30,19 @@ pub refuse_no : {A : Type 0} {t : Bool} (n : ℕ) (o : Outcome A) → t ≡ fals
 unfolding refuse_if
 refuse_no n o e = rw e
 
--- what a count of what is given says of a choice by it
-pub refused_other : {A B : Type 0} (f : A → ℕ) (o : Outcome A) (g : A → B) (other : B) {n : ℕ} → refuses n ≡ mapped f o → other ≡ if_given o g other
+-- what a value made of what is given says of a choice by it
+pub refused_other : {A B C : Type 0} (f : A → C) (o : Outcome A) (g : A → B) (other : B) {n : ℕ} → refuses n ≡ mapped f o → other ≡ if_given o g other
 unfolding mapped if_given
 refused_other f (gives a) g other e = absurd (gives_refuses (sym e))
 refused_other f (refuses n) g other e = refl
 
-pub given_one : {A B : Type 0} (f : A → ℕ) (o : Outcome A) (b other : B) {n : ℕ} → gives n ≡ mapped f o → b ≡ if_given o (λ _. b) other
+pub given_one : {A B C : Type 0} (f : A → C) (o : Outcome A) (b other : B) {n : C} → gives n ≡ mapped f o → b ≡ if_given o (λ _. b) other
 unfolding mapped if_given
 given_one f (gives a) b other e = refl
 given_one f (refuses n) b other e = absurd (gives_refuses e)
+
+-- a value made of what is given is made of a value given
+pub mapped_given : {A C : Type 0} (f : A → C) (o : Outcome A) {c : C} → gives c ≡ mapped f o → (a : A) × ((o ≡ gives a) × (c ≡ f a))
+unfolding mapped
+mapped_given f (gives a) e = (a, (refl, gives_one e))
+mapped_given f (refuses n) e = absurd (gives_refuses e)

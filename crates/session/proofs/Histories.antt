@@ -7,34 +7,29 @@ use mathlib.Core.List.{List, [], ◌∷◌, ◌++◌}
 use native.Mathlib.Omega.{arith}
 use lib.Dec.{ltb, eqb}
 use lib.ListN.{length}
-use borrow.Author.Tests.{ltb-true, ltb-false, ne_eqb, not-false}
-use Rattle.paper.specs.Outcome.{Outcome, gives, refuses, mapped, if_given}
-use Rattle.paper.specs.Refusals.{written}
+use borrow.Author.Tests.{ltb-true, ltb-false, le-ltb, eq-eqb, ne_eqb, not-false}
+use Rattle.paper.specs.Outcome.{Outcome, gives, refuses, refuse_if, mapped, if_given}
+use Rattle.std.specs.Prelude.{Result, Ok}
+use Rattle.paper.specs.Refusals.{outcome}
+use Rattle.paper.specs.declared.refusal.Refusal.{Refusal}
 use Rattle.paper.specs.Writing.{fitting, over}
-use Rattle.paper.specs.declared.refusal.Written.TheVariants as writing
-use Rattle.paper.proofs.Outcome.{refuse_not, gives_refuses}
-use Rattle.paper.proofs.Refusals.{written_one}
+use Rattle.paper.proofs.Outcome.{refuse_not, mapped_given}
+use Rattle.paper.proofs.Refusals.{outcome_one}
 use Rattle.paper.proofs.Writing.{fitting_yes}
-use Rattle.wire.specs.Request.{stop_code, reset_code, scan_code, force_scan_code, get_info_code, get_health_code, start_byte, kind_of, request_of}
+use Rattle.wire.specs.Request.{stop_code, reset_code, scan_code, force_scan_code, get_info_code, get_health_code, start_byte, kind_of}
 use Rattle.wire.specs.declared.request.Kind.{Kind}
 use Rattle.wire.specs.declared.request.Kind.TheVariants.{Other}
 use Rattle.wire.specs.declared.request.Request.{Request}
 use Rattle.wire.proofs.Requests.{short_request}
-use Rattle.session.specs.Session.{of_the_six, permitted, in_order, sending, accepted}
+use Rattle.session.specs.Session.{of_the_six, permitted, in_order, sending, accepted, after}
 use Rattle.session.specs.Promises.{RequestSent}
 use Rattle.session.specs.History.{Act, sent, KeepsFrom, Led, none, accepting, refusing, telling}
 use Rattle.session.specs.declared.Session.{Session}
 use Rattle.session.specs.declared.Sent.{Sent}
-use Rattle.session.proofs.Checks.{all_passed, is_permitted}
 use Rattle.session.proofs.Steps.{step, steps, Takes, TakesAll, rules_of_steps, steps_of_rules, takes_last}
 use Rattle.session.proofs.Unchanged.{refused_unchanged}
 
 -- ---- what is sent, was taken
-
-given : (o : Outcome (List ℕ)) {n : ℕ} → gives n ≡ mapped length o → (xs : List ℕ) × (o ≡ gives xs)
-unfolding mapped
-given (gives xs) e = (xs, refl)
-given (refuses m) e = absurd (gives_refuses e)
 
 fitted : (room : ℕ) (o : Outcome (List ℕ)) {xs : List ℕ} → fitting room o ≡ gives xs → o ≡ gives xs
 unfolding fitting
@@ -60,12 +55,12 @@ sending_taken s time code payload e =
     let w = ltb-false (time - s.last) s.wait c.0 in
     (permitted_six (kind_of code) (length payload) (not-false _ b.0), omega arith, d.0)
 
-module _ {s : Session} {time : ℕ} {q : Request} {payload was : List ℕ} {r : Sent} {is : List ℕ} (p : RequestSent s time q payload was r is) where
-  sent_taken : {n : ℕ} → r.answer ≡ writing.Bytes n → Takes s (sent time (kind_of q.0)) × (r.session ≡ accepted time (kind_of q.0))
-  unfolding written if_given
+module _ {s : Session} {time : ℕ} {q : Request} {payload was : List ℕ} {r : Result Sent Refusal} {is : List ℕ} (p : RequestSent s time q payload was r is) where
+  sent_taken : {x : Sent} → r ≡ Ok x → Takes s (sent time (kind_of q.0)) × (after s r ≡ accepted time (kind_of q.0))
+  unfolding outcome after
   sent_taken e =
-      let g = given (fitting (length was) (sending s time q.0 payload)) (sym (ap written e) ∙ p.writes.answer) in
-      (sending_taken s time q.0 payload (fitted (length was) _ g.1), rw g.1 at p.session)
+      let g = mapped_given _ _ (rw e at p.answer) in
+      (sending_taken s time q.0 payload (fitted (length was) _ g.1.0), rw e (ap (λ (x : Sent). x.session) g.1.1))
 
 -- the calls of a history are steps
 led_steps : {s t : Session} {acts : List Act} → Led s acts t → TakesAll s acts × (t ≡ steps s acts)
@@ -111,26 +106,21 @@ six_short code e = go (ltb code 0x80) refl
 
 taken_sending : (s : Session) (time code : ℕ) (payload : List ℕ) → length payload ≡ 0 → Takes s (sent time (kind_of code))
     → sending s time code payload ≡ gives (start_byte ∷ code ∷ [])
-unfolding sending Takes
+unfolding sending in_order permitted refuse_if Takes
 taken_sending s time code payload z f =
     let w = f.1 in
-    all_passed s time (kind_of code) (length payload) (request_of code payload) (omega arith) (is_permitted _ _ (sym f.0) refl (omega arith)) (omega arith) f.2
-    ∙ short_request code payload (six_short code f.0) (omega arith)
-
--- what a sending comes to that gives bytes with room for them
-module _ {s : Session} {time : ℕ} {q : Request} {payload was : List ℕ} {r : Sent} {is : List ℕ} (p : RequestSent s time q payload was r is) where
-  gives_sent : {xs : List ℕ} → sending s time q.0 payload ≡ gives xs → length xs ≤ length was
-      → (r.answer ≡ writing.Bytes (length xs)) × (r.session ≡ accepted time (kind_of q.0)) × (is ≡ over was xs)
-  unfolding written mapped if_given
-  gives_sent {xs} e h =
-      let f : fitting (length was) (sending s time q.0 payload) ≡ gives xs = rw e (fitting_yes xs (length was) h) in
-      (written_one r.answer (writing.Bytes (length xs)) (rw f at p.writes.answer), rw f at p.session, rw f at p.writes.output)
+    rw (le-ltb time s.last (omega arith), f.0, eq-eqb (length payload) 0 z, le-ltb (time - s.last) s.wait (omega arith), f.2)
+    (short_request code payload (six_short code f.0) (omega arith))
 
 -- A sending that keeps all rules, with no payload and an output of two bytes or more, is never refused: the two bytes of the request are written.
-pub kept_is_sent : {s t : Session} {acts : List Act} {time : ℕ} {q : Request} {payload was is : List ℕ} {r : Sent}
+pub kept_is_sent : {s t : Session} {acts : List Act} {time : ℕ} {q : Request} {payload was is : List ℕ} {r : Result Sent Refusal}
     → Led s acts t → RequestSent t time q payload was r is
     → KeepsFrom s (acts ++ sent time (kind_of q.0) ∷ []) → length payload ≡ 0 → 2 ≤ length was
-    → (r.answer ≡ writing.Bytes 2) × (r.session ≡ accepted time (kind_of q.0)) × (is ≡ over was (start_byte ∷ q.0 ∷ []))
-kept_is_sent {s} {t} {acts} {time} {q} {payload} l p f z h =
+    → (r ≡ Ok (record { session = accepted time (kind_of q.0); bytes = 2 })) × (is ≡ over was (start_byte ∷ q.0 ∷ []))
+unfolding outcome mapped if_given
+kept_is_sent {s} {t} {acts} {time} {q} {payload} {was} {r = r} l p f z h =
     let k : Takes (steps s acts) (sent time (kind_of q.0)) = takes_last s acts _ (steps_of_rules s _ f) in
-    gives_sent p (taken_sending t time q.0 payload z (rw (led_steps l).1 k)) h
+    let xs = start_byte ∷ q.0 ∷ [] in
+    let g : fitting (length was) (sending t time q.0 payload) ≡ gives xs =
+    rw (taken_sending t time q.0 payload z (rw (led_steps l).1 k)) (fitting_yes xs (length was) h) in
+    (outcome_one r (Ok _) (rw g at p.answer), rw g at p.output)

@@ -1,4 +1,3 @@
-pub mod Checks
 pub mod Unchanged
 pub mod Steps
 pub mod Histories

@@ -2,13 +2,12 @@
 use Prim.Native.Nat.{ℕ}
 use mathlib.Core.Path.{◌≡◌, sym, ap, ◌∙◌}
 use mathlib.Core.List.{List}
-use lib.ListN.{length}
+use Rattle.std.specs.Prelude.{Result, Err}
 use Rattle.paper.proofs.Outcome.{refused_other}
-use Rattle.paper.specs.Refusals.{written}
+use Rattle.paper.specs.Refusals.{outcome}
 use Rattle.paper.specs.declared.refusal.Refusal.{Refusal}
-use Rattle.paper.specs.declared.refusal.Written.TheVariants as writing
 use Rattle.wire.specs.declared.request.Request.{Request}
-use Rattle.session.specs.Session.{ended}
+use Rattle.session.specs.Session.{ended, after}
 use Rattle.session.specs.Promises.{RequestSent, ReplyEnded}
 use Rattle.session.specs.declared.Awaited.{Awaited}
 use Rattle.session.specs.declared.Awaited.TheVariants.{Nothing}
@@ -16,12 +15,10 @@ use Rattle.session.specs.declared.Session.{Session}
 use Rattle.session.specs.declared.Sent.{Sent}
 
 -- the very session, its last time too, and the output
-pub refused_unchanged : {s : Session} {time : ℕ} {q : Request} {payload was : List ℕ} {r : Sent} {is : List ℕ} {a : Refusal}
-    → RequestSent s time q payload was r is → r.answer ≡ writing.Refused a → (r.session ≡ s) × (is ≡ was)
-unfolding written
-refused_unchanged p e =
-    let f = sym (ap written e) ∙ p.writes.answer in
-    (p.session ∙ sym (refused_other length _ _ _ f), p.writes.output ∙ sym (refused_other length _ _ _ f))
+pub refused_unchanged : {s : Session} {time : ℕ} {q : Request} {payload was : List ℕ} {r : Result Sent Refusal} {is : List ℕ} {a : Refusal}
+    → RequestSent s time q payload was r is → r ≡ Err a → (after s r ≡ s) × (is ≡ was)
+unfolding outcome after
+refused_unchanged {s = s} p e = (rw e, p.output ∙ sym (refused_other _ _ _ _ (rw e at p.answer)))
 
 pub ended_unchanged : {s r : Session} → ReplyEnded s r → s.awaited ≡ Nothing → r ≡ s
 unfolding ended

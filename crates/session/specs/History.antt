@@ -1,12 +1,11 @@
 -- Histories of a session: the rules over the list of what was accepted, and the calls that lead to such a list.
-use Rattle.std.specs.Prelude.{ℕ, ◌+◌, ◌≤◌, ◌≡◌, true, List, [], ◌∷◌}
+use Rattle.std.specs.Prelude.{ℕ, ◌+◌, ◌≤◌, ◌≡◌, true, List, [], ◌∷◌, Result, Ok, Err}
 use Rattle.paper.specs.Words.{Each}
 use Rattle.paper.specs.declared.refusal.Refusal.{Refusal}
-use Rattle.paper.specs.declared.refusal.Written.TheVariants.{Bytes, Refused}
 use Rattle.wire.specs.Request.{kind_of}
 use Rattle.wire.specs.declared.request.Kind.{Kind}
 use Rattle.wire.specs.declared.request.Request.{Request}
-use Rattle.session.specs.Session.{of_the_six, wait_after, awaited_after, halts}
+use Rattle.session.specs.Session.{of_the_six, wait_after, awaited_after, halts, after}
 use Rattle.session.specs.Promises.{RequestSent, ReplyEnded}
 use Rattle.session.specs.declared.Awaited.TheVariants.{Reply}
 use Rattle.session.specs.declared.Session.{Session}
@@ -60,8 +59,8 @@ pub record KeepsFrom (s : Session) (acts : List Act) : Type 0 where
 -- The calls that led from a session to another, each as its promise says, and the list of what was accepted; a refused sending is not in it.
 pub data Led : Session → List Act → Session → Type 0 where
   none : {s : Session} → Led s [] s
-  accepting : {s t : Session} {time n : ℕ} {q : Request} {payload was is : List ℕ} {r : Sent} {acts : List Act}
-      → RequestSent s time q payload was r is → r.answer ≡ Bytes n → Led r.session acts t → Led s (sent time (kind_of q.0) ∷ acts) t
-  refusing : {s t : Session} {time : ℕ} {a : Refusal} {q : Request} {payload was is : List ℕ} {r : Sent} {acts : List Act}
-      → RequestSent s time q payload was r is → r.answer ≡ Refused a → Led r.session acts t → Led s acts t
+  accepting : {s t : Session} {time : ℕ} {q : Request} {payload was is : List ℕ} {r : Result Sent Refusal} {x : Sent} {acts : List Act}
+      → RequestSent s time q payload was r is → r ≡ Ok x → Led (after s r) acts t → Led s (sent time (kind_of q.0) ∷ acts) t
+  refusing : {s t : Session} {time : ℕ} {a : Refusal} {q : Request} {payload was is : List ℕ} {r : Result Sent Refusal} {acts : List Act}
+      → RequestSent s time q payload was r is → r ≡ Err a → Led (after s r) acts t → Led s acts t
   telling : {s u t : Session} {acts : List Act} → ReplyEnded s u → Led u acts t → Led s (told ∷ acts) t

@@ -1,7 +1,8 @@
 -- A session: what the host may send, and when.
-use Rattle.std.specs.Prelude.{ℕ, ◌-◌, Bool, true, false, not, ◌&&◌, List, ltb, eqb, length}
+use Rattle.std.specs.Prelude.{ℕ, ◌-◌, Bool, true, false, not, ◌&&◌, List, ltb, eqb, length, Result, Ok, Err}
 use Rattle.paper.specs.Outcome.{Outcome, refuse_if}
 use Rattle.paper.specs.Refusals.{number_of}
+use Rattle.paper.specs.declared.refusal.Refusal.{Refusal}
 use Rattle.paper.specs.declared.refusal.Refusal.TheVariants.{CodeNotPermitted, TimeEarlier, WaitNotOver, ReplyAwaited}
 use Rattle.wire.specs.Request.{kind_of, request_of, stop_wait, reset_wait}
 use Rattle.wire.specs.declared.request.Kind.{Kind}
@@ -9,6 +10,7 @@ use Rattle.wire.specs.declared.request.Kind.TheVariants.{Stop, Reset, Scan, Forc
 use Rattle.session.specs.declared.Awaited.{Awaited}
 use Rattle.session.specs.declared.Awaited.TheVariants.{Nothing, Reply}
 use Rattle.session.specs.declared.Session.{Session}
+use Rattle.session.specs.declared.Sent.{Sent}
 
 -- a fresh session: no time accepted yet, no wait, nothing awaited
 unfoldable pub fresh : Session
@@ -83,3 +85,8 @@ sending s time code payload = in_order s time (kind_of code) (length payload) (r
 -- the session once a request is accepted
 unfoldable pub accepted : ℕ → Kind → Session
 accepted time k = record { last = time; wait = wait_after k; awaited = awaited_after k }
+
+-- the session behind a sending: the answer's, and the very one where it is refused
+unfoldable pub after : Session → Result Sent Refusal → Session
+after s (Ok r) = r.session
+after s (Err q) = s
