@@ -1,7 +1,7 @@
 -- Laws of outcomes. The ones to know: `gives_one` and `refuses_one` (a constructor's value is determined), `refuse_not` (what was not refused),
 -- `mapped_given` (what a value made of what is given was made of).
 use Prim.Native.Nat.{ℕ}
-use mathlib.Core.Path.{◌≡◌, refl, sym}
+use mathlib.Core.Path.{◌≡◌, refl, sym, ap, ◌∙◌}
 use mathlib.Core.Bool.{Bool, true, false}
 use native.Mathlib.Omega.{arith}
 use Rattle.paper.specs.Outcome.{Outcome, gives, refuses, refuse_if, if_given, mapped}
@@ -46,3 +46,15 @@ pub mapped_given : {A C : Type 0} (f : A → C) (o : Outcome A) {c : C} → give
 unfolding mapped
 mapped_given f (gives a) e = (a, (refl, gives_one e))
 mapped_given f (refuses n) e = absurd (gives_refuses e)
+
+-- what is refused stays refused, whatever else would be given
+pub refused_as : {A B C : Type 0} {n : ℕ} (f : A → B) (o : Outcome A) (g : A → C) → ◌≡◌ {A = Outcome B} (refuses n) (mapped f o) → ◌≡◌ {A = Outcome C} (refuses n) (mapped g o)
+unfolding mapped
+refused_as f (gives a) g e = absurd (gives_refuses (sym e))
+refused_as f (refuses m) g e = cc
+
+-- what is given may be changed on both sides
+pub given_as : {A B C : Type 0} {b : B} (f : A → B) (o : Outcome A) (g : B → C) (h : A → C) → ((a : A) → g (f a) ≡ h a) → gives b ≡ mapped f o → gives (g b) ≡ mapped h o
+unfolding mapped
+given_as f (gives a) g h k e = ap gives (ap g (gives_one e) ∙ k a)
+given_as f (refuses m) g h k e = absurd (gives_refuses e)
