@@ -1,26 +1,18 @@
 -- Decimal numbers are the digits: `decimal_told` (the digits tell the number), `decimal_digits` (each is a digit), `decimal_leads` (no zero
--- stands in front), `decimal_short` (so many digits at most).
+-- stands in front), `decimal_short` (so many digits at most), `decimal_counted` (how many).
 use Prim.Native.Nat.{ℕ, zero, suc, ◌+◌, ◌-◌, ◌*◌, ◌/◌, ◌%◌, ◌^◌, ◌≤◌, ◌<◌}
 use mathlib.Core.Path.{◌≡◌, refl, sym, ap, ◌∙◌}
-use mathlib.Core.Bool.{Bool, true, false}
-use mathlib.Core.Logic.{◌⊎◌, inl, inr, ⊎_elim}
+use mathlib.Core.Logic.{inl, inr}
 use mathlib.Core.List.{List, [], ◌∷◌, ◌++◌}
 use native.Mathlib.Omega.{arith}
-use native.Mathlib.Nat.{pow-suc}
+use native.Mathlib.Nat.{pow-suc, one-le-pow}
 use lib.ListN.{length, get_or, length-append, get_or-append}
-use lib.Dec.{ltb}
-use borrow.Author.Tests.{lt-ltb, le-ltb, ltb-true, ltb-false}
+use Rattle.std.specs.Prelude.{max}
+use borrow.Author.Tests.{lt-ltb, le-ltb}
+use Rattle.std.proofs.lemmas.Bool.{cases_lt}
 use Rattle.paper.specs.Words.{Each}
 use Rattle.paper.proofs.Words.{each_append}
 use Rattle.text.specs.Decimal.{digits, decimal, told_from}
-
--- one digit or more
-one_or_more : (n : ℕ) → (n < 10) ⊎ (10 ≤ n)
-one_or_more n = go (ltb n 10) refl
-  where
-    go : (t : Bool) → ltb n 10 ≡ t → (n < 10) ⊎ (10 ≤ n)
-    go true e = inl (ltb-true n 10 e)
-    go false e = inr (ltb-false n 10 e)
 
 -- ---- one digit, and one digit more
 
@@ -37,13 +29,13 @@ digits_enough : (most n : ℕ) → n < most → (more : ℕ) → n < more → di
 digits_enough zero n l more k = absurd (omega arith)
 digits_enough (suc most) n l zero k = absurd (omega arith)
 digits_enough (suc most) n l (suc more) k =
-    ⊎_elim
-    (λ b. digits_one most n b ∙ sym (digits_one more n b))
-    (λ g.
-    digits_more most n g
-    ∙ ap (λ (ds : List ℕ). ds ++ (48 + n % 10) ∷ []) (digits_enough most (n / 10) (omega arith) more (omega arith))
-    ∙ sym (digits_more more n g))
-    (one_or_more n)
+    elim (cases_lt n 10) [
+      | inl b ↦ digits_one most n b ∙ sym (digits_one more n b)
+      | inr g ↦
+          digits_more most n g
+          ∙ ap (λ (ds : List ℕ). ds ++ (48 + n % 10) ∷ []) (digits_enough most (n / 10) (omega arith) more (omega arith))
+          ∙ sym (digits_more more n g)
+    ]
 
 pub decimal_one : (n : ℕ) → n < 10 → decimal n ≡ (48 + n) ∷ []
 unfolding decimal
@@ -60,7 +52,7 @@ by_digits P one more n = go (suc n) n (omega arith)
   where
     go : (most n : ℕ) → n < most → P n
     go zero n l = absurd (omega arith)
-    go (suc most) n l = ⊎_elim (λ b. one n b) (λ g. more n g (go most (n / 10) (omega arith))) (one_or_more n)
+    go (suc most) n l = elim (cases_lt n 10) [ inl b ↦ one n b | inr g ↦ more n g (go most (n / 10) (omega arith)) ]
 
 -- ---- what they are
 
@@ -103,10 +95,19 @@ decimal_leads =
 pub decimal_short : (k n : ℕ) → n < 10 ^ suc k → length (decimal n) ≤ suc k
 decimal_short zero n l = rw (decimal_one n (omega arith)) (omega arith)
 decimal_short (suc k) n l =
-    ⊎_elim
-    (λ b. rw (decimal_one n b) (omega arith))
-    (λ g.
-    let p : 10 ^ suc (suc k) ≡ 10 ^ suc k * 10 = pow-suc 10 (suc k) in
-    let i : length (decimal (n / 10)) ≤ suc k = decimal_short k (n / 10) (omega arith) in
-    rw (decimal_more n g, length-append) (omega arith))
-    (one_or_more n)
+    elim (cases_lt n 10) [
+      | inl b ↦ rw (decimal_one n b) (omega arith)
+      | inr g ↦
+          let p : 10 ^ suc (suc k) ≡ 10 ^ suc k * 10 = pow-suc 10 (suc k) in
+          let i : length (decimal (n / 10)) ≤ suc k = decimal_short k (n / 10) (omega arith) in
+          rw (decimal_more n g, length-append) (omega arith)
+    ]
+
+-- one digit more than the largest power of ten in a number, where 0 counts as 1
+pub decimal_counted : (k n : ℕ) → 10 ^ k ≤ max n 1 → max n 1 < 10 * 10 ^ k → k + 1 ≡ length (decimal n)
+decimal_counted zero n g l = rw (decimal_one n (omega arith)) refl
+decimal_counted (suc k) n g l =
+    let p : 10 ^ suc k ≡ 10 ^ k * 10 = pow-suc 10 k in
+    let some : 1 ≤ 10 ^ k = one-le-pow k 10 (omega arith) in
+    let i : k + 1 ≡ length (decimal (n / 10)) = decimal_counted k (n / 10) (omega arith) (omega arith) in
+    rw (decimal_more n (omega arith), length-append) (omega arith)

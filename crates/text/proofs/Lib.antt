@@ -2,8 +2,8 @@ pub mod Decimal
 pub mod Hex
 pub mod Appends
 pub mod Puts
+pub mod Pieces
 pub mod Refused
 pub mod Shown
-pub mod Never
 pub mod Parts
 pub mod Determined

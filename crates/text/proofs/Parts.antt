@@ -1,61 +1,31 @@
--- Texts taken apart, for the code of `part`: what each return of `digit_value` gives, and of `stands` (`stands_beyond`, `stands_short`, `stands_same`).
-use Prim.Native.Nat.{ℕ, ◌+◌, ◌-◌, ◌≤◌, ◌<◌}
+-- Texts taken apart, for the code of `part`: what `stands` answers, by the rest of the text from the place on.
+use Prim.Native.Nat.{ℕ, ◌-◌, ◌<◌, ◌≤◌}
 use mathlib.Core.Path.{◌≡◌, sym, ap, ◌∙◌}
-use mathlib.Core.Bool.{Bool, true, false}
+use mathlib.Core.Bool.{Bool, false}
 use mathlib.Core.List.{List}
+use mathlib.Core.Logic.{inl, inr}
 use native.Mathlib.Omega.{arith}
-use borrow.Author.Tests.{lt-ltb, le-ltb}
-use lib.ListN.{length, take, drop, length-drop, length-take}
-use Rattle.text.specs.Parts.{digit_in}
-use Rattle.text.specs.Promises.{DigitRead, StandsTold}
-use Rattle.text.proofs.Never.{never}
-
-module _ (b : ℕ) where
-  pub before_zero : b < 48 → DigitRead b 16
-  unfolding digit_in
-  before_zero l = record { value = rw (lt-ltb b 48 l) }
-
-  pub of_nine : 48 ≤ b → b < 58 → DigitRead b (b - 48)
-  unfolding digit_in
-  of_nine g l = record { value = rw (le-ltb b 48 g, lt-ltb b 58 l) }
-
-  pub before_upper : 58 ≤ b → b < 65 → DigitRead b 16
-  unfolding digit_in
-  before_upper g l = record { value = rw (le-ltb b 48 (omega arith), le-ltb b 58 g, lt-ltb b 65 l) }
-
-  pub of_upper : 65 ≤ b → b < 71 → DigitRead b (b - 65 + 10)
-  unfolding digit_in
-  of_upper g l = record { value = rw (le-ltb b 48 (omega arith), le-ltb b 58 (omega arith), le-ltb b 65 g, lt-ltb b 71 l) (omega arith) }
-
-  pub before_lower : 71 ≤ b → b < 97 → DigitRead b 16
-  unfolding digit_in
-  before_lower g l =
-      record { value = rw (le-ltb b 48 (omega arith), le-ltb b 58 (omega arith), le-ltb b 65 (omega arith), le-ltb b 71 g, lt-ltb b 97 l) }
-
-  pub of_lower : 97 ≤ b → b < 103 → DigitRead b (b - 97 + 10)
-  unfolding digit_in
-  of_lower g l =
-      record { value = rw (le-ltb b 48 (omega arith), le-ltb b 58 (omega arith), le-ltb b 65 (omega arith), le-ltb b 71 (omega arith), le-ltb b 97 g, lt-ltb b 103 l) (omega arith) }
-
-  pub behind_lower : 103 ≤ b → DigitRead b 16
-  unfolding digit_in
-  behind_lower g =
-      record { value = rw (le-ltb b 48 (omega arith), le-ltb b 58 (omega arith), le-ltb b 65 (omega arith), le-ltb b 71 (omega arith), le-ltb b 97 (omega arith), le-ltb b 103 g) }
+use denote.Ref.{Bor}
+use lib.ListN.{length, take, drop, length-drop}
+use lib.Seq.{take_all}
+use Rattle.std.specs.Prelude.{Option, Some, None, MatchOption, nat_eq}
+use Rattle.std.specs.List.{starts_with}
+use Rattle.std.specs.Slice.{IsGetRangeResult}
+use Rattle.std.proofs.lemmas.Bool.Decides.{Decides-eqb}
+use Rattle.std.proofs.lemmas.Slice.Eq.{slice_eq-Decides}
+use Rattle.text.specs.Promises.{StandsTold}
 
 module _ (xs : List ℕ) (place : ℕ) (piece : List ℕ) where
-  pub stands_beyond : length xs < place → StandsTold xs place piece false
-  stands_beyond l = record { there = λ e. never e; told = λ s. absurd (omega (arith, s.0)) }
+  stands_beyond : length xs < place → StandsTold xs place piece false
+  stands_beyond l = record { there = λ e. cc; told = λ s. absurd (omega (arith, s.0)) }
 
-  pub stands_short : place ≤ length xs → length xs - place < length piece → StandsTold xs place piece false
-  stands_short g l = record {
-    there = λ e. never e;
-    told = λ s. absurd (omega (arith, ap length s.1, length-drop place xs, length-take (length piece) (drop place xs)));
-  }
+  stands_in : (r : Bool) (rest : List ℕ) → place ≤ length xs → rest ≡ drop place xs → r ≡ starts_with nat_eq rest piece → StandsTold xs place piece r
+  stands_in r rest l e s =
+      let d = slice_eq-Decides Decides-eqb piece (take (length piece) rest) r s in
+      record { there = λ t. (l, sym (d.0 t ∙ ap (take (length piece)) e)); told = λ t. d.1 (sym t.1 ∙ ap (take (length piece)) (sym e)) }
 
-  pub stands_same : {r : Bool} → place ≤ length xs
-      → ((r ≡ true → take (place + length piece - place) (drop place xs) ≡ piece) × (take (place + length piece - place) (drop place xs) ≡ piece → r ≡ true))
-      → StandsTold xs place piece r
-  stands_same g h =
-      let n : place + length piece - place ≡ length piece = omega arith in
-      let part = ap (λ (k : ℕ). take k (drop place xs)) n in
-      record { there = λ e. (g, sym part ∙ h.0 e); told = λ s. h.1 (part ∙ s.1) }
+  pub stands_told : (r : Bool) (got : Option (Bor (List ℕ))) → IsGetRangeResult xs place (length xs) got
+      → MatchOption got (r ≡ false) (λ rest. r ≡ starts_with nat_eq rest.now piece) → StandsTold xs place piece r
+  stands_told r None (inl l, _) e = rw e (stands_beyond l)
+  stands_told r None (inr l, _) e = absurd (omega arith)
+  stands_told r (Some rest) ((l, _, e, _), _) s = stands_in r rest.now l (e ∙ take_all (length xs - place) (drop place xs) (omega (arith, length-drop place xs))) s

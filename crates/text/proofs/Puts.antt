@@ -28,10 +28,13 @@ append_whole {was} {is} {xs} {from} {r} p =
     ∙ ap (λ (ys : List ℕ). ys ++ drop r is) p.front
     ∙ ap (λ (ys : List ℕ). take from was ++ xs ++ ys) (p.behind ∙ ap (λ (n : ℕ). drop n was) p.end)
 
-pub puts_there : {was is xs : List ℕ} {from r : ℕ} → from + length xs ≤ length was → Appends was from xs r is → Puts was from xs r is
-puts_there {was} {is} {xs} {from} {r} l p =
+pub puts_at : {was is xs : List ℕ} {from r : ℕ} → from + length xs ≤ length was → r ≡ from + length xs → is ≡ put_at from xs was → Puts was from xs r is
+puts_at {was} {is} {xs} {from} l n e =
     let t = fits_yes was from xs l in
-    record { next = rw t p.end; output = rw t (append_whole p) }
+    record { next = rw t n; output = rw t e }
+
+pub puts_there : {was is xs : List ℕ} {from r : ℕ} → from + length xs ≤ length was → Appends was from xs r is → Puts was from xs r is
+puts_there l p = puts_at l p.end (append_whole p)
 
 pub puts_not : (was : List ℕ) (from : ℕ) (xs : List ℕ) → length was < from + length xs → Puts was from xs from was
 puts_not was from xs l =

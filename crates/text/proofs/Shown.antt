@@ -6,28 +6,27 @@ use native.Mathlib.Omega.{arith}
 use lib.ListN.{length, take}
 use lib.Seq.{length-take-le, take_at}
 use Rattle.paper.specs.Outcome.{gives, mapped}
-use Rattle.paper.specs.Refusals.{written}
+use Rattle.paper.specs.Refusals.{outcome}
 use Rattle.paper.specs.Writing.{over, Writes}
 use Rattle.paper.specs.declared.refusal.Refusal.{Refusal}
-use Rattle.paper.specs.declared.refusal.Written.{Written}
-use Rattle.paper.specs.declared.refusal.Written.TheVariants.{Bytes, Refused}
-use Rattle.paper.proofs.Refusals.{written_one}
+use Rattle.std.specs.Prelude.{Result, Ok, Err}
+use Rattle.paper.proofs.Refusals.{outcome_one}
 use Rattle.paper.proofs.Writing.{fitting_yes, length_over, written_over}
 
 -- n bytes of an output are written, and they are xs
 abbrev pub Shows : List ℕ → ℕ → List ℕ → Type 0
 Shows xs n is = ((n ≤ length is) × (n ≡ length (take n is))) × (take n is ≡ xs)
 
-module _ (xs : List ℕ) {was is : List ℕ} {r : Written} (room : length xs ≤ length was) (w : Writes (gives xs) was r is) where
-  all_written : r ≡ Bytes (length xs)
-  all_written = written_one r (Bytes (length xs)) (w.answer ∙ ap (mapped length) (fitting_yes xs (length was) room) ∙ unfold mapped written in refl)
+module _ (xs : List ℕ) {was is : List ℕ} {r : Result ℕ Refusal} (room : length xs ≤ length was) (w : Writes (gives xs) was r is) where
+  all_written : r ≡ Ok (length xs)
+  all_written = outcome_one r (Ok (length xs)) (w.answer ∙ ap (mapped length) (fitting_yes xs (length was) room) ∙ unfold mapped outcome in refl)
 
-  pub line_never_short : {q : Refusal} → r ≡ Refused q → ⊥
+  pub line_never_short : {q : Refusal} → r ≡ Err q → ⊥
   line_never_short e =
       let z : ◌≡◌ {A = ℕ} 0 1 = cc all_written in
       omega arith
 
-  pub line_shown : (n : ℕ) → r ≡ Bytes n → Shows xs n is
+  pub line_shown : (n : ℕ) → r ≡ Ok n → Shows xs n is
   unfolding over
   line_shown n e =
       let count : n ≡ length xs = cc all_written in

@@ -1,44 +1,27 @@
 // Texts taken apart: digits, pieces at a place, the front of a buffer.
-ghost use Rattle.std.specs.Prelude.{◌≡◌, ◌≤◌, length, take};
+ghost use Rattle.std.specs.Prelude.{◌≡◌, ◌≤◌, ◌<◌, length, take, IfSome};
 ghost use Rattle.text.specs.Promises.{DigitRead, StandsTold, FrontTold};
 
-// The value of a hexadecimal digit, and 16 of any other byte.
-pub fn digit_value(b: u8) -> u8
-    ensures small { result ≤ 16 }
+// The value of a hexadecimal digit.
+#[tactic(auto, using(std::proofs::lemmas::Bool::Decides::nat_tests), unfolding(crate::specs::Parts::digit_in))]
+pub fn digit_value(b: u8) -> Option<u8>
+    ensures small { IfSome result (λ d. d < 16) }
     ensures value { DigitRead b result }
 {
-    if b < b'0' {
-        return 16;
+    match b {
+        b'0'..=b'9' => Some(b - b'0'),
+        b'A'..=b'F' => Some(b - b'A' + 10),
+        b'a'..=b'f' => Some(b - b'a' + 10),
+        _ => None,
     }
-    if b <= b'9' {
-        return b - b'0';
-    }
-    if b < b'A' {
-        return 16;
-    }
-    if b <= b'F' {
-        return b - b'A' + 10;
-    }
-    if b < b'a' {
-        return 16;
-    }
-    if b <= b'f' {
-        return b - b'a' + 10;
-    }
-    16
 }
 
 // Whether a piece stands in a text at a place.
 pub fn stands(text: &[u8], place: usize, piece: &[u8]) -> bool
     ensures { StandsTold text.now place piece.now result }
 {
-    if place > text.len() {
-        return false;
-    }
-    if piece.len() > text.len() - place {
-        return false;
-    }
-    check::same(&text[place..place + piece.len()], piece)
+    text.get(place..)
+        .is_some_and(|rest| rest.starts_with(piece))
 }
 
 // So many bytes of a text, or all of it.
@@ -46,5 +29,5 @@ pub fn front(n: usize, text: &[u8]) -> usize
     ensures counts { (result ≤ length text.now) × (result ≡ length (take result text.now)) }
     ensures least { FrontTold n text.now result }
 {
-    if n < text.len() { n } else { text.len() }
+    n.min(text.len())
 }

@@ -1,7 +1,7 @@
 -- `text::part::stands` meets its contract.
-use native.Mathlib.Omega.{arith}
-use Rattle.text.proofs.Parts.{stands_same}
+use Rattle.std.proofs.Common.{rules}
+use Rattle.text.proofs.Parts.{stands_told}
 use Rattle.text.proofs.part.stands.Goals as goal
 
 pub returns : goal.returns
-returns c = stands_same _ _ _ (omega arith) c.same.ensures
+returns c = stands_told _ _ _ _ _ c.get.ensures.lookup (search rules)
