@@ -6,7 +6,6 @@ pub mod Counted
 pub mod Putting
 pub mod Writing
 pub mod Reading
-pub mod Answers
 pub mod Determined
 pub mod FieldsRoundTrip
 pub mod RoundTrip

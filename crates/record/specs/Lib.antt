@@ -1,5 +1,4 @@
 pub mod Fields
 pub mod Record
-pub mod Answers
 pub mod Promises
 pub mod inner
