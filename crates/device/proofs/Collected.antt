@@ -3,7 +3,7 @@ use Prim.Native.Nat.{ℕ, suc, ◌+◌, ◌-◌, ◌<◌, ◌≤◌}
 use mathlib.Core.Path.{◌≡◌, refl, sym, ap, ◌∙◌}
 use mathlib.Core.Bool.{Bool, true, false}
 use mathlib.Core.List.{List, [], ◌∷◌, ◌++◌}
-use mathlib.Core.Option.{Option, none, some}
+use Rattle.std.specs.Prelude.{Option, None, Some}
 use native.Mathlib.Omega.{arith}
 use native.Mathlib.Numerals.{add-one}
 use lib.Bits.{bit_xor}
@@ -18,7 +18,7 @@ use Rattle.paper.specs.Writing.{over}
 use Rattle.paper.specs.declared.refusal.Refusal.TheVariants.{CodeNotPermitted}
 use Rattle.paper.proofs.Outcome.{gives_one, refuse_not}
 use Rattle.wire.specs.Request.{start_byte, packet_time, with_sum, request_of}
-use Rattle.device.specs.Collector.{started, whole, wrong, Taken, goes, packet, taking, part_of, stage_of, behind, payload_in, told}
+use Rattle.device.specs.Collector.{started, whole, wrong, Taken, goes, packet, taking, part_of, stage_of, behind, payload_in, answered, told}
 use Rattle.device.specs.Feeding.{Fed, onward, feeding, collected_whole}
 use Rattle.device.proofs.Collecting.{
   begin_yes,
@@ -39,6 +39,7 @@ use Rattle.device.proofs.Collecting.{
 use Rattle.device.specs.declared.collector.Stage.{Stage}
 use Rattle.device.specs.declared.collector.Stage.TheVariants.{Empty, Started, Coded, Sized}
 use Rattle.device.specs.declared.collector.Collector.{Collector}
+use Rattle.device.specs.declared.collector.Packet.{Packet}
 
 -- a collector at a stage
 at_stage : Stage → ℕ → ℕ → Collector
@@ -53,13 +54,13 @@ fed_step s mem t b bs x f e v m =
     let g = taken_three s (t 0) b mem f x e in
     rw (g.0, g.1, g.2, v, m)
 
-fed_is : {xs ys : List (Outcome (Option (ℕ × ℕ)))} {s u : Collector} {m w : List ℕ} → xs ≡ ys → s ≡ u → m ≡ w
+fed_is : {xs ys : List (Outcome (Option Packet))} {s u : Collector} {m w : List ℕ} → xs ≡ ys → s ≡ u → m ≡ w
     → ◌≡◌ {A = Fed} (record { answers = xs; collector = s; memory = m }) (record { answers = ys; collector = u; memory = w })
 fed_is a c m = rw (a, c, m)
 
 -- nothing complete for n bytes, and then a packet
-answers_of : ℕ → ℕ → ℕ → List (Outcome (Option (ℕ × ℕ)))
-answers_of n code size = replicate n (gives none) ++ gives (some (code, size)) ∷ []
+answers_of : ℕ → ℕ → ℕ → List (Outcome (Option Packet))
+answers_of n code size = replicate n (gives None) ++ gives (Some (answered code size)) ∷ []
 
 -- the payload and the checksum, from the k-th byte of the payload on
 module _ (code n begun : ℕ) where
@@ -76,10 +77,10 @@ module _ (code n begun : ℕ) where
   last_fed mem k t e l =
       let size : length (take n mem) ≡ n = length-take-le n mem l in
       let same : k ≡ n = omega arith in
-      fed_is (ap (λ (m : ℕ). gives (some (code, m)) ∷ []) size) refl (sym (take-append-drop n mem) ∙ ap (λ (m : ℕ). take m mem ++ drop n mem) (sym same))
+      fed_is (ap (λ (m : ℕ). gives (Some (answered code m)) ∷ []) size) refl (sym (take-append-drop n mem) ∙ ap (λ (m : ℕ). take m mem ++ drop n mem) (sym same))
 
   more_fed : (q : ℕ) (qs mem : List ℕ) (k : ℕ) (t : ℕ → ℕ) → k < n → n ≤ length mem
-      → onward (gives none) (rest_fed qs (set mem k q) (k + 1) (λ j. t (suc j))) ≡ rest_fed (q ∷ qs) mem k t
+      → onward (gives None) (rest_fed qs (set mem k q) (k + 1) (λ j. t (suc j))) ≡ rest_fed (q ∷ qs) mem k t
   unfolding rest_fed answers_of onward
   more_fed q qs mem k t h l =
       let front : take (k + 1) (set mem k q) ≡ take k mem ++ q ∷ [] = ap (λ (m : ℕ). take m (set mem k q)) (add-one k) ∙ take-suc-set mem k q (omega arith) in
@@ -102,7 +103,7 @@ module _ (code n begun : ℕ) where
       (joined_at (Sized code n k acc) begun (t 0) q mem (omega arith) (le-ltb packet_time (t 0 - begun) (soon 0))
       ∙ payload_joins code n k acc begun q mem h l)
       (payload_behind code n k acc begun q mem h l (t 0)) (sym (payload_memory code n k acc begun q mem h l))
-      ∙ ap (onward (gives none))
+      ∙ ap (onward (gives None))
       (rest_fed_lem qs (set mem k q) (k + 1) (bit_xor acc q) (t 0) (λ j. t (suc j)) (omega arith) (simp length-set l) (up 0) (λ j. up (suc j)) (λ j. soon (suc j)))
       ∙ more_fed q qs mem k t h l
 
@@ -130,7 +131,7 @@ module _ (s : Collector) (mem : List ℕ) (t : ℕ → ℕ) (idle : s.stage ≡ 
   on_time : (j : ℕ) → ltb packet_time (t j - t 0) ≡ false
   on_time j = le-ltb packet_time (t j - t 0) (soon j)
 
-  first_fed : (bs : List ℕ) → feeding s mem t (start_byte ∷ bs) ≡ onward (gives none) (feeding (at_stage Started (t 0) (t 0)) mem (λ k. t (suc k)) bs)
+  first_fed : (bs : List ℕ) → feeding s mem t (start_byte ∷ bs) ≡ onward (gives None) (feeding (at_stage Started (t 0) (t 0)) mem (λ k. t (suc k)) bs)
   unfolding part_of behind stage_of started payload_in over told at_stage
   first_fed bs =
       fed_step s mem t start_byte bs (goes (started (t 0))) fresh
@@ -142,14 +143,14 @@ module _ (s : Collector) (mem : List ℕ) (t : ℕ → ℕ) (idle : s.stage ≡ 
   unfolding part_of behind started payload_in over told at_stage collected_whole onward feeding whole wrong
   short_fed code h =
       first_fed (code ∷ [])
-      ∙ ap (onward (gives none))
+      ∙ ap (onward (gives None))
       (fed_step (at_stage Started (t 0) (t 0)) mem (λ k. t (suc k)) code [] (packet code []) (up 0)
       (joined_at Started (t 0) (t 1) code mem (omega arith) (on_time 1) ∙ joins_packet (started (t 0)) code (lt-ltb code 0x80 h) refl)
       refl refl)
 
   second_fed : (code : ℕ) (bs : List ℕ) → 0x80 ≤ code
       → feeding (at_stage Started (t 0) (t 0)) mem (λ k. t (suc k)) (code ∷ bs)
-      ≡ onward (gives none) (feeding (at_stage (Coded code) (t 0) (t 1)) mem (λ k. t (suc (suc k))) bs)
+      ≡ onward (gives None) (feeding (at_stage (Coded code) (t 0) (t 1)) mem (λ k. t (suc (suc k))) bs)
   unfolding part_of behind stage_of started payload_in over told at_stage whole
   second_fed code bs h =
       fed_step (at_stage Started (t 0) (t 0)) mem (λ k. t (suc k)) code bs
@@ -159,7 +160,7 @@ module _ (s : Collector) (mem : List ℕ) (t : ℕ → ℕ) (idle : s.stage ≡ 
 
   size_fed : (code n : ℕ) (bs : List ℕ)
       → feeding (at_stage (Coded code) (t 0) (t 1)) mem (λ k. t (suc (suc k))) (n ∷ bs)
-      ≡ onward (gives none) (feeding (at_stage (Sized code n 0 (bit_xor (bit_xor start_byte code) n)) (t 0) (t 2)) mem (λ k. t (suc (suc (suc k)))) bs)
+      ≡ onward (gives None) (feeding (at_stage (Sized code n 0 (bit_xor (bit_xor start_byte code) n)) (t 0) (t 2)) mem (λ k. t (suc (suc (suc k)))) bs)
   unfolding part_of behind stage_of payload_in over told at_stage sized
   size_fed code n bs =
       fed_step (at_stage (Coded code) (t 0) (t 1)) mem (λ k. t (suc (suc k))) n bs (goes (sized (t 0) code n)) (up 1)
@@ -175,12 +176,12 @@ module _ (s : Collector) (mem : List ℕ) (t : ℕ → ℕ) (idle : s.stage ≡ 
       let acc = bit_xor (bit_xor start_byte code) n in
       let long : length (start_byte ∷ code ∷ n ∷ (payload ++ xor_from acc payload ∷ [])) - 1 ≡ suc (suc (suc n)) = simp length-append (omega arith) in
       first_fed (code ∷ n ∷ (payload ++ xor_from acc payload ∷ []))
-      ∙ ap (onward (gives none)) (second_fed code (n ∷ (payload ++ xor_from acc payload ∷ [])) h
-      ∙ ap (onward (gives none)) (size_fed code n (payload ++ xor_from acc payload ∷ [])
-      ∙ ap (onward (gives none)) (rest_fed_lem code n (t 0) payload mem 0 acc (t 2) (λ k. t (suc (suc (suc k)))) (omega arith) l (up 2)
+      ∙ ap (onward (gives None)) (second_fed code (n ∷ (payload ++ xor_from acc payload ∷ [])) h
+      ∙ ap (onward (gives None)) (size_fed code n (payload ++ xor_from acc payload ∷ [])
+      ∙ ap (onward (gives None)) (rest_fed_lem code n (t 0) payload mem 0 acc (t 2) (λ k. t (suc (suc (suc k)))) (omega arith) l (up 2)
       (λ j. up (suc (suc (suc j)))) (λ j. soon (suc (suc (suc j)))))))
       ∙ ap (λ (m : ℕ). record {
-        answers = replicate m (gives none) ++ gives (some (code, n)) ∷ [];
+        answers = replicate m (gives None) ++ gives (Some (answered code n)) ∷ [];
         collector = record { stage = Empty; begun = 0; last = t m };
         memory = payload ++ drop n mem;
       }) (sym long)

@@ -1,4 +1,4 @@
--- How the collector's promise is met, stage by stage: `byte_earlier`, `byte_late`, `byte_first`, `byte_second`, `byte_size`, `byte_payload`, `byte_sum`.
+-- What a byte makes of a packet so far, and what `Collector::byte` and `Stage::next` stand on: `earlier`, `met`, `payload_stepped`.
 use Prim.Native.Nat.{ℕ, suc, ◌+◌, ◌-◌, ◌<◌, ◌≤◌}
 use mathlib.Core.Path.{◌≡◌, refl, sym, ap, ◌∙◌}
 use mathlib.Core.Bool.{Bool, true, false, cond, not, or-true}
@@ -9,9 +9,10 @@ use lib.Bits.{bit_xor}
 use lib.Dec.{ltb, eqb}
 use lib.ListN.{length, get_or, take, drop, set, length-append, take-append-drop}
 use lib.Seq.{take-take, take_all, length-take-le, set_split, append_snoc}
-use borrow.Author.Tests.{lt-ltb, le-ltb, eq-eqb, ne_eqb, eqb-true, eqb-false}
-use Rattle.paper.specs.Outcome.{gives, refuse_if, if_given, mapped}
+use borrow.Author.Tests.{lt-ltb, le-ltb, eq-eqb, ne_eqb}
+use Rattle.paper.specs.Outcome.{gives, refuses, if_given, mapped}
 use Rattle.paper.specs.Refusals.{number_of}
+use Rattle.std.specs.Prelude.{None}
 use Rattle.paper.specs.Writing.{over}
 use Rattle.paper.specs.declared.refusal.Refusal.TheVariants.{TimeEarlier}
 use Rattle.paper.proofs.Outcome.{refuse_yes, refuse_no}
@@ -38,15 +39,12 @@ use Rattle.device.specs.Collector.{
   answer_to,
   collector_after,
   memory_after,
-  completes,
+  collected,
 }
-use Rattle.device.specs.Promises.{ByteCollected}
-use Rattle.device.specs.inner.Collecting.{Told, going_on, completing, none}
+use Rattle.device.specs.inner.Collecting.{stepping, begun_by, Stepped}
 use Rattle.device.specs.declared.collector.Stage.{Stage}
 use Rattle.device.specs.declared.collector.Stage.TheVariants.{Empty, Started, Coded, Sized}
 use Rattle.device.specs.declared.collector.Collector.{Collector}
-use Rattle.device.specs.declared.collector.Collected.{Collected}
-use Rattle.device.specs.declared.collector.Completed.TheVariants as completed
 
 -- ---- what a byte makes of a packet so far
 
@@ -85,40 +83,7 @@ module _ (p : Part) (b : ℕ) where
   unfolding joining
   joins_packet e f = rw (e, f)
 
--- ---- what the private functions answer
-
-pub told_same : {t u : Taken} {time : ℕ} {r : Collected} → t ≡ u → Told u time r → Told t time r
-told_same e d = rw e d
-
-pub told_started : (time : ℕ) → Told (goes (started time)) time (record { collector = record { stage = Started; begun = time; last = time }; answer = completed.Nothing })
-unfolding told completes behind stage_of started
-told_started time = record { answer = refl; collector = refl }
-
-pub told_empty : (time : ℕ) {r : Collected} → r ≡ none time → Told (goes empty) time r
-unfolding told completes behind stage_of empty none
-told_empty time e = rw e (record { answer = refl; collector = refl })
-
-pub told_packet : (code size : ℕ) (payload : List ℕ) (time : ℕ) {r : Collected} → size ≡ length payload → r ≡ completing code size time → Told (packet code payload) time r
-unfolding told completes behind completing
-told_packet code size payload time l e = rw (e, l) (record { answer = refl; collector = refl })
-
-pub second_packet : (begun time b : ℕ) {r : Collected} → b < 0x80 → r ≡ completing b 0 time → Told (joining (started begun) b) time r
-unfolding started whole wrong
-second_packet begun time b h e = told_same (joins_packet (started begun) b (lt-ltb b 0x80 h) refl) (told_packet b 0 [] time refl e)
-
-pub second_code : (begun time b : ℕ) → 0x80 ≤ b
-    → Told (joining (started begun) b) time (record { collector = record { stage = Coded b; begun = begun; last = time }; answer = completed.Nothing })
-unfolding started whole told completes behind stage_of
-second_code begun time b h = told_same (joins_more (started begun) b (le-ltb b 0x80 h)) (record { answer = refl; collector = refl })
-
 -- ---- the promise
-
-pub byte_earlier : (s : Collector) (time b : ℕ) (was : List ℕ) → time < s.last
-    → ByteCollected s time b was (record { collector = s; answer = completed.Refused TimeEarlier }) was
-unfolding collecting completes mapped if_given answer_to collector_after memory_after
-byte_earlier s time b was h =
-    let e = refuse_yes (number_of TimeEarlier) (gives (taking (part_of s.stage s.begun was) time b)) (lt-ltb time s.last h) in
-    record { answer = rw e; collector = rw e; memory = rw e }
 
 -- the time of a packet is its collector's
 pub late_of : (st : Stage) (begun time : ℕ) (mem : List ℕ) → late (part_of st begun mem) time ≡ ltb packet_time (time - begun)
@@ -133,25 +98,6 @@ pub joined_at : (st : Stage) (begun time b : ℕ) (mem : List ℕ) → 0 < lengt
     → taking (part_of st begun mem) time b ≡ joining (part_of st begun mem) b
 joined_at st begun time b mem h e = taken_joins (part_of st begun mem) time b h (late_of st begun time mem ∙ e)
 
--- a packet begins, or none: the memory stays
-begin_memory : (time b : ℕ) (was : List ℕ) → was ≡ over was (payload_in (goes (begin time b)))
-unfolding payload_in begin started empty over
-begin_memory time b was = go (eqb b start_byte)
-  where
-    go : (t : Bool) → was ≡ drop 3 (cond t (started time) empty).bytes ++ drop (length (drop 3 (cond t (started time) empty).bytes)) was
-    go true = refl
-    go false = refl
-
--- the second byte: the memory stays
-second_memory : (begun b : ℕ) (was : List ℕ) → was ≡ over was (payload_in (joining (started begun) b))
-unfolding payload_in joining started whole wrong over
-second_memory begun b was = go (ltb b 0x80)
-  where
-    go : (t : Bool)
-        → was ≡ over was (payload_in (cond t (packet b []) (goes (record { bytes = start_byte ∷ b ∷ []; sum = bit_xor start_byte b; begun = begun }))))
-    go true = refl
-    go false = refl
-
 -- the size
 unfoldable pub sized : ℕ → ℕ → ℕ → Part
 sized begun code b = record { bytes = start_byte ∷ code ∷ b ∷ []; sum = bit_xor (bit_xor start_byte code) b; begun = begun }
@@ -159,14 +105,6 @@ sized begun code b = record { bytes = start_byte ∷ code ∷ b ∷ []; sum = bi
 pub size_joins : (begun code b : ℕ) (was : List ℕ) → joining (part_of (Coded code) begun was) b ≡ goes (sized begun code b)
 unfolding part_of whole sized
 size_joins begun code b was = joins_more (part_of (Coded code) begun was) b (ne_eqb 0 (b + 1) (λ z. omega arith))
-
-size_told : (begun code b time : ℕ) {r : Collected} → r ≡ going_on code b 0 (bit_xor (bit_xor start_byte code) b) begun time → Told (goes (sized begun code b)) time r
-unfolding told completes behind stage_of going_on sized
-size_told begun code b time e = rw e (record { answer = refl; collector = refl })
-
-size_memory : (begun code b : ℕ) (was : List ℕ) → was ≡ over was (payload_in (goes (sized begun code b)))
-unfolding payload_in over sized
-size_memory begun code b was = refl
 
 -- the payload so far with one byte more
 one_more : (count b : ℕ) (was : List ℕ) → count ≤ length was → length (take count was ++ b ∷ []) ≡ count + 1
@@ -192,10 +130,6 @@ module _ (code size count sum begun b : ℕ) (was : List ℕ) where
         let n : length (take count was ++ b ∷ []) ≡ count + 1 = one_more count b was (omega arith) in
         let held : ℕ → Collector = λ k. record { stage = Sized code size k (bit_xor sum b); begun = begun; last = time } in
         ap held n
-
-    payload_told : (time : ℕ) {r : Collected} → r ≡ going_on code size (count + 1) (bit_xor sum b) begun time → Told (goes filled) time r
-    unfolding told completes going_on
-    payload_told time e = rw e (record { answer = refl; collector = sym (payload_behind time) })
 
     pub payload_memory : set was count b ≡ over was (payload_in (goes filled))
     unfolding payload_in over filled
@@ -229,82 +163,42 @@ pub kept_memory : (code size : ℕ) (was : List ℕ) → size ≤ length was →
 unfolding payload_in over
 kept_memory code size was l = rw (length-take-le size was l) (sym (take-append-drop size was))
 
-empty_memory : (was : List ℕ) → was ≡ over was (payload_in (goes empty))
-unfolding payload_in over empty
-empty_memory was = refl
+-- a byte that is not earlier is taken, and leads to three things
+pub taken_gives : (s : Collector) (time b : ℕ) (was : List ℕ) → s.last ≤ time → (t : Taken) → taking (part_of s.stage s.begun was) time b ≡ t
+    → collecting s was time b ≡ gives t
+unfolding collecting
+taken_gives s time b was fresh t e = refuse_no _ _ (le-ltb time s.last fresh) ∙ ap gives e
 
--- a byte that is not earlier: the three things
 pub taken_three : (s : Collector) (time b : ℕ) (was : List ℕ) → s.last ≤ time → (t : Taken) → taking (part_of s.stage s.begun was) time b ≡ t
     → (answer_to s was time b ≡ gives (told t)) × (collector_after s was time b ≡ behind time t) × (memory_after s was time b ≡ over was (payload_in t))
-unfolding collecting mapped if_given answer_to collector_after memory_after
-taken_three s time b was fresh t e =
-    let g : refuse_if (ltb time s.last) (number_of TimeEarlier) (gives (taking (part_of s.stage s.begun was) time b)) ≡ gives t =
-    refuse_no (number_of TimeEarlier) (gives (taking (part_of s.stage s.begun was) time b)) (le-ltb time s.last fresh) ∙ ap gives e in
-    (rw g, rw g, rw g)
+unfolding mapped if_given answer_to collector_after memory_after
+taken_three s time b was fresh t e = let g = taken_gives s time b was fresh t e in (rw g, rw g, rw g)
 
-module _ (s : Collector) (time b : ℕ) (was : List ℕ) (r : Collected) (fresh : s.last ≤ time) where
-  byte_taken : (is : List ℕ) (t : Taken) → taking (part_of s.stage s.begun was) time b ≡ t → Told t time r → is ≡ over was (payload_in t)
-      → ByteCollected s time b was r is
-  byte_taken is t e d m =
-      let g = taken_three s time b was fresh t e in
-      record { answer = d.answer ∙ sym g.0; collector = d.collector ∙ sym g.1; memory = m ∙ sym g.2 }
+-- ---- the stages
 
-  pub byte_late : ltb packet_time (time - s.begun) ≡ true → Told (goes (begin time b)) time r → ByteCollected s time b was r was
-  byte_late l d =
-      byte_taken was (goes (begin time b)) (taken_late (part_of s.stage s.begun was) time b (late_of s.stage s.begun time was ∙ l)) d
-      (begin_memory time b was)
+-- a byte of the payload
+pub payload_stepped : {st : Stage} {k : ℕ} (code size count sum b : ℕ) (was : List ℕ) → st ≡ Sized code size count sum → k ≡ count → count < size → size ≤ length was
+    → Stepped st b was (Sized code size (count + 1) (bit_xor sum b), None) (set was k b)
+unfolding stepping told collected begun_by
+payload_stepped code size count sum b was e i h l = rw (e, i) (record {
+  answer = λ begun time. rw (payload_joins code size count sum begun b was h l)
+      (ap (λ (s : Collector). record { collector = s; packet = None }) (payload_behind code size count sum begun b was h l time));
+  memory = λ begun time. rw (payload_joins code size count sum begun b was h l) (sym (payload_memory code size count sum begun b was h l));
+})
 
-  pub byte_first : s.stage ≡ Empty → Told (goes (begin time b)) time r → ByteCollected s time b was r was
-  byte_first e d =
-      byte_taken was (goes (begin time b))
-      (ap (λ (st : Stage). taking (part_of st s.begun was) time b) e ∙ taken_none (part_of Empty s.begun was) time b (unfold part_of in refl)) d
-      (begin_memory time b was)
+-- what the byte that is taken makes of the stage that it meets
+pub met : (s : Collector) (was : List ℕ) (time b : ℕ) → s.last ≤ time
+    → collecting s was time b ≡ gives (stepping (cond (ltb packet_time (time - s.begun)) Empty s.stage) s.begun was time b)
+unfolding stepping
+met s was time b fresh = taken_gives s time b was fresh _ (go (ltb packet_time (time - s.begun)) refl s.stage)
+  where
+    go : (x : Bool) → ltb packet_time (time - s.begun) ≡ x → (st : Stage) → taking (part_of st s.begun was) time b ≡ stepping (cond x Empty st) s.begun was time b
+    go true e st = taken_late (part_of st s.begun was) time b (late_of st s.begun time was ∙ e)
+    go false e Empty = taken_none (part_of Empty s.begun was) time b (unfold part_of in refl)
+    go false e Started = joined_at Started s.begun time b was (unfold part_of started in (omega arith)) e
+    go false e (Coded code) = joined_at (Coded code) s.begun time b was (unfold part_of in (omega arith)) e
+    go false e (Sized code size count sum) = joined_at (Sized code size count sum) s.begun time b was (unfold part_of in (omega arith)) e
 
-  module _ (soon : ltb packet_time (time - s.begun) ≡ false) where
-    joins_at : (st : Stage) → s.stage ≡ st → 0 < length (part_of st s.begun was).bytes
-        → taking (part_of s.stage s.begun was) time b ≡ joining (part_of st s.begun was) b
-    joins_at st e h =
-        ap (λ (u : Stage). taking (part_of u s.begun was) time b) e ∙ joined_at st s.begun time b was h soon
-
-    pub byte_second : s.stage ≡ Started → Told (joining (started s.begun) b) time r → ByteCollected s time b was r was
-    unfolding part_of started
-    byte_second e d = byte_taken was (joining (started s.begun) b) (joins_at Started e (omega arith)) d (second_memory s.begun b was)
-
-    pub byte_size : (code : ℕ) → s.stage ≡ Coded code → r ≡ going_on code b 0 (bit_xor (bit_xor start_byte code) b) s.begun time → ByteCollected s time b was r was
-    unfolding part_of
-    byte_size code e q =
-        byte_taken was (goes (sized s.begun code b)) (joins_at (Coded code) e (omega arith) ∙ size_joins s.begun code b was)
-        (size_told s.begun code b time q) (size_memory s.begun code b was)
-
-    module _ (code size count sum : ℕ) (e : s.stage ≡ Sized code size count sum) (l : size ≤ length was) where
-      there : 0 < length (part_of (Sized code size count sum) s.begun was).bytes
-      unfolding part_of
-      there = omega arith
-
-      pub byte_payload : count < size → r ≡ going_on code size (count + 1) (bit_xor sum b) s.begun time → ByteCollected s time b was r (set was count b)
-      byte_payload h q =
-          byte_taken (set was count b) (goes (filled code size count sum s.begun b was))
-          (joins_at (Sized code size count sum) e there ∙ payload_joins code size count sum s.begun b was h l)
-          (payload_told code size count sum s.begun b was h l time q)
-          (payload_memory code size count sum s.begun b was h l)
-
-      pub byte_right : size ≤ count → b ≡ sum → r ≡ completing code size time → ByteCollected s time b was r was
-      byte_right h q d =
-          byte_taken was (packet code (take size was))
-          (joins_at (Sized code size count sum) e there ∙ last_yes code size count sum s.begun b was h l q)
-          (told_packet code size (take size was) time (sym (length-take-le size was l)) d)
-          (kept_memory code size was l)
-
-      pub byte_wrong : size ≤ count → (b ≡ sum → ⊥) → r ≡ none time → ByteCollected s time b was r was
-      byte_wrong h n d =
-          byte_taken was (goes empty)
-          (joins_at (Sized code size count sum) e there ∙ last_no code size count sum s.begun b was h l n)
-          (told_empty time d)
-          (empty_memory was)
-
-      pub byte_sum : size ≤ count → r ≡ cond (eqb b sum) (completing code size time) (none time) → ByteCollected s time b was r was
-      byte_sum h d = go (eqb b sum) refl
-        where
-          go : (t : Bool) → eqb b sum ≡ t → ByteCollected s time b was r was
-          go true x = byte_right h (eqb-true b sum x) (d ∙ rw x)
-          go false x = byte_wrong h (eqb-false b sum x) (d ∙ rw x)
+pub earlier : (s : Collector) (was : List ℕ) (time b : ℕ) → time < s.last → collecting s was time b ≡ refuses (number_of TimeEarlier)
+unfolding collecting
+earlier s was time b h = refuse_yes _ _ (lt-ltb time s.last h)

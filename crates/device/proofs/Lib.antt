@@ -4,4 +4,5 @@ pub mod WritesBack
 pub mod Models
 pub mod ReadBack
 pub mod InfoKept
+pub mod Calls
 pub mod Determined

@@ -3,7 +3,7 @@ use Prim.Native.Nat.{ℕ, zero, suc, ◌+◌, ◌<◌, ◌≤◌}
 use mathlib.Core.Path.{◌≡◌, refl, sym, ap, ◌∙◌}
 use mathlib.Core.Bool.{Bool, true, false, cond, ◌||◌}
 use mathlib.Core.List.{List, [], ◌∷◌, ◌++◌, append-nil, append_assoc}
-use mathlib.Core.Option.{some}
+use Rattle.std.specs.Prelude.{Some}
 use native.Mathlib.Omega.{arith}
 use lib.Bits.{bit_xor}
 use lib.Dec.{ltb, eqb}
@@ -36,6 +36,7 @@ use Rattle.device.specs.Collector.{
   stage_of,
   behind,
   payload_in,
+  answered,
   told,
   answer_to,
   collector_after,
@@ -45,6 +46,7 @@ use Rattle.device.specs.Feeding.{onward, feeding, EndsWith}
 use Rattle.device.proofs.Collecting.{joins_more, joins_wrong, joins_packet, taken_three}
 use Rattle.device.specs.declared.collector.Stage.TheVariants.{Empty}
 use Rattle.device.specs.declared.collector.Collector.{Collector}
+use Rattle.device.specs.declared.collector.Packet.{Packet}
 
 -- the beginning of a request that is not whole yet
 Opens : List ℕ → Type 0
@@ -249,22 +251,20 @@ traced_all fed (b ∷ bs) s mem t d up l =
     rw (append_snoc fed b bs) at all
 
 -- a packet that is answered is the one that was taken
-packet_of : (fed : List ℕ) (x : Taken) (mem : List ℕ) (code n : ℕ) → Good fed x → told x ≡ some (code, n) → EndsWith fed code (take n (over mem (payload_in x)))
-unfolding Good told payload_in over
-packet_of fed (goes p) mem code n g e = let z : ◌≡◌ {A = ℕ} 0 1 = cc in absurd (omega arith)
-packet_of fed (packet c payload) mem code n g e =
-    let pair : ◌≡◌ {A = ℕ × ℕ} (c, length payload) (code, n) = cc in
-    let size : length payload ≡ n = ap (λ (x : ℕ × ℕ). x.1) pair in
-    let same : c ≡ code = ap (λ (x : ℕ × ℕ). x.0) pair in
-    rw (take_at payload (drop (length payload) mem) n size, ← same) g.0
+packet_of : (fed : List ℕ) (x : Taken) (mem : List ℕ) (p : Packet) → Good fed x → told x ≡ Some p → EndsWith fed p.request.0 (take p.size (over mem (payload_in x)))
+unfolding Good told answered payload_in over
+packet_of fed (goes q) mem p g e = absurd (cc)
+packet_of fed (packet code payload) mem p g e =
+    let same : answered code (length payload) ≡ p = cc in
+    rw (← same, take_at payload (drop (length payload) mem) _ refl) g.0
 
 -- After any bytes with times that do not go back, fed to a collector with nothing begun: where one more byte completes a packet,
 -- its code and its payload write back to the bytes that were fed last.
-pub collected_writes_back : (s : Collector) (mem : List ℕ) (t : ℕ → ℕ) (bs : List ℕ) (b code n : ℕ) → s.stage ≡ Empty → length mem ≡ 255 → s.last ≤ t 0
+pub collected_writes_back : (s : Collector) (mem : List ℕ) (t : ℕ → ℕ) (bs : List ℕ) (b : ℕ) (p : Packet) → s.stage ≡ Empty → length mem ≡ 255 → s.last ≤ t 0
     → ((j : ℕ) → t j ≤ t (suc j)) → Bytes bs → b < 256
-    → answer_to (feeding s mem t bs).collector (feeding s mem t bs).memory (t (length bs)) b ≡ gives (some (code, n))
-    → EndsWith (bs ++ b ∷ []) code (take n (memory_after (feeding s mem t bs).collector (feeding s mem t bs).memory (t (length bs)) b))
-collected_writes_back s mem t bs b code n idle room fresh up l h e =
+    → answer_to (feeding s mem t bs).collector (feeding s mem t bs).memory (t (length bs)) b ≡ gives (Some p)
+    → EndsWith (bs ++ b ∷ []) p.request.0 (take p.size (memory_after (feeding s mem t bs).collector (feeding s mem t bs).memory (t (length bs)) b))
+collected_writes_back s mem t bs b p idle room fresh up l h e =
     let u = (feeding s mem t bs).collector in
     let m = (feeding s mem t bs).memory in
     let time = t (length bs) in
@@ -273,4 +273,4 @@ collected_writes_back s mem t bs b code n idle room fresh up l h e =
     let x = taking (part_of u.stage u.begun m) time b in
     let g = taken_three u time b m d.last x refl in
     rw g.2
-    (packet_of (bs ++ b ∷ []) x m code n (taking_good bs (part_of u.stage u.begun m) time b d.follows (omega arith)) (gives_one (sym g.0 ∙ e)))
+    (packet_of (bs ++ b ∷ []) x m p (taking_good bs (part_of u.stage u.begun m) time b d.follows (omega arith)) (gives_one (sym g.0 ∙ e)))

@@ -1,17 +1,17 @@
 -- Collecting requests: the bytes of a packet so far, and what the next byte makes of them.
-use Rattle.std.specs.Prelude.{ℕ, ◌+◌, ◌-◌, Bool, false, cond, not, ◌&&◌, ◌||◌, List, [], ◌∷◌, ◌++◌, ltb, eqb, length, get_or, take, drop}
-use Rattle.std.proofs.Math.Option.{Option, none, some}
+use Rattle.std.specs.Prelude.{ℕ, ◌+◌, ◌-◌, Bool, false, cond, not, ◌&&◌, ◌||◌, List, [], ◌∷◌, ◌++◌, ltb, eqb, length, get_or, take, drop, Option, Some, None, Result, Ok, Err}
 use Rattle.std.specs.Int.Bits.{bit_xor}
-use Rattle.paper.specs.Outcome.{Outcome, gives, refuses, refuse_if, if_given, mapped}
+use Rattle.paper.specs.Outcome.{Outcome, gives, refuse_if, if_given, mapped}
 use Rattle.paper.specs.Refusals.{number_of}
 use Rattle.paper.specs.Writing.{over}
+use Rattle.paper.specs.declared.refusal.Refusal.{Refusal}
 use Rattle.paper.specs.declared.refusal.Refusal.TheVariants.{TimeEarlier}
 use Rattle.wire.specs.Request.{start_byte, packet_time}
 use Rattle.device.specs.declared.collector.Stage.{Stage}
 use Rattle.device.specs.declared.collector.Stage.TheVariants.{Empty, Started, Coded, Sized}
 use Rattle.device.specs.declared.collector.Collector.{Collector}
-use Rattle.device.specs.declared.collector.Completed.{Completed}
-use Rattle.device.specs.declared.collector.Completed.TheVariants as completed
+use Rattle.device.specs.declared.collector.Packet.{Packet}
+use Rattle.device.specs.declared.collector.Collected.{Collected}
 
 -- A packet so far: its bytes (none where no packet is begun), their exclusive or, and when its A5 came.
 pub record Part : Type 0 where
@@ -90,13 +90,21 @@ unfoldable pub payload_in : Taken → List ℕ
 payload_in (goes p) = drop 3 p.bytes
 payload_in (packet code payload) = payload
 
--- a whole packet is answered with its code and the size of its payload
-unfoldable pub told : Taken → Option (ℕ × ℕ)
-told (goes p) = none
-told (packet code payload) = some (code, length payload)
+-- a packet as it is answered: its code and the size of its payload
+unfoldable pub answered : ℕ → ℕ → Packet
+answered code size = record { request = record { 0 = code }; size = size }
+
+-- a whole packet is answered
+unfoldable pub told : Taken → Option Packet
+told (goes p) = None
+told (packet code payload) = Some (answered code (length payload))
+
+-- what a byte that was taken comes to
+unfoldable pub collected : ℕ → Taken → Collected
+collected time t = record { collector = behind time t; packet = told t }
 
 -- the three things that a byte leads to: an answer, the collector and the memory; where it is refused, both are as they were
-unfoldable pub answer_to : Collector → List ℕ → ℕ → ℕ → Outcome (Option (ℕ × ℕ))
+unfoldable pub answer_to : Collector → List ℕ → ℕ → ℕ → Outcome (Option Packet)
 answer_to s mem time b = mapped told (collecting s mem time b)
 
 unfoldable pub collector_after : Collector → List ℕ → ℕ → ℕ → Collector
@@ -105,8 +113,7 @@ collector_after s mem time b = if_given (collecting s mem time b) (behind time) 
 unfoldable pub memory_after : Collector → List ℕ → ℕ → ℕ → List ℕ
 memory_after s mem time b = if_given (collecting s mem time b) (λ x. over mem (payload_in x)) mem
 
--- what the code's answer means
-unfoldable pub completes : Completed → Outcome (Option (ℕ × ℕ))
-completes completed.Nothing = gives none
-completes (completed.Packet request size) = gives (some (request.0, size))
-completes (completed.Refused q) = refuses (number_of q)
+-- the collector behind a call: the answer's, and the very one where the byte is refused
+unfoldable pub after : Collector → Result Collected Refusal → Collector
+after s (Ok r) = r.collector
+after s (Err q) = s

@@ -1,21 +1,21 @@
 -- Bytes fed to a collector one after another: the k-th byte comes at time t k.
-use Rattle.std.specs.Prelude.{ℕ, suc, ◌-◌, ◌≡◌, List, [], ◌∷◌, ◌++◌, length, replicate}
-use Rattle.std.proofs.Math.Option.{Option, none, some}
+use Rattle.std.specs.Prelude.{ℕ, suc, ◌-◌, ◌≡◌, List, [], ◌∷◌, ◌++◌, length, replicate, Option, Some, None}
 use Rattle.paper.specs.Outcome.{Outcome, gives}
 use Rattle.paper.specs.Writing.{over}
 use Rattle.wire.specs.Request.{request_of}
-use Rattle.device.specs.Collector.{answer_to, collector_after, memory_after}
+use Rattle.device.specs.Collector.{answered, answer_to, collector_after, memory_after}
 use Rattle.device.specs.declared.collector.Stage.TheVariants.{Empty}
 use Rattle.device.specs.declared.collector.Collector.{Collector}
+use Rattle.device.specs.declared.collector.Packet.{Packet}
 
 -- an answer for each byte, and the collector and the memory behind the last one
 pub record Fed : Type 0 where
-  pub answers : List (Outcome (Option (ℕ × ℕ)))
+  pub answers : List (Outcome (Option Packet))
   pub collector : Collector
   pub memory : List ℕ
 
 -- an answer, and then what the further bytes lead to
-unfoldable pub onward : Outcome (Option (ℕ × ℕ)) → Fed → Fed
+unfoldable pub onward : Outcome (Option Packet) → Fed → Fed
 onward a rest = record { answers = a ∷ rest.answers; collector = rest.collector; memory = rest.memory }
 
 unfoldable pub feeding : Collector → List ℕ → (ℕ → ℕ) → List ℕ → Fed
@@ -26,7 +26,7 @@ feeding s mem t (b ∷ bs) =
 -- a whole request: nothing is complete before its last byte, and then its packet is, with the payload at the front of the memory
 unfoldable pub collected_whole : ℕ → List ℕ → List ℕ → List ℕ → (ℕ → ℕ) → Fed
 collected_whole code payload request mem t = record {
-  answers = replicate (length request - 1) (gives none) ++ gives (some (code, length payload)) ∷ [];
+  answers = replicate (length request - 1) (gives None) ++ gives (Some (answered code (length payload))) ∷ [];
   collector = record { stage = Empty; begun = 0; last = t (length request - 1) };
   memory = over mem payload;
 }

@@ -1,7 +1,8 @@
 -- The bench model of the scanner: what it does on a request, and what it sends.
-use Rattle.std.specs.Prelude.{ℕ, Bool, true, false, cond, not, List, [], ◌++◌, ltb, eqb}
+use Rattle.std.specs.Prelude.{ℕ, Bool, true, false, cond, not, List, [], ◌++◌, ltb, eqb, Result, Ok, Err}
 use Rattle.paper.specs.Outcome.{Outcome, gives, refuses, refuse_if, mapped}
 use Rattle.paper.specs.Refusals.{number_of}
+use Rattle.paper.specs.declared.refusal.Refusal.{Refusal}
 use Rattle.paper.specs.declared.refusal.Refusal.TheVariants.{CodeNotPermitted, NotAReply, NoSampleSent}
 use Rattle.wire.specs.Descriptor.{scan_descriptor, info_descriptor, health_descriptor}
 use Rattle.wire.specs.Reply.{error_status, bytes_of_info, bytes_of_health}
@@ -14,6 +15,7 @@ use Rattle.wire.specs.declared.sample.Sample.{Sample}
 use Rattle.device.specs.declared.model.State.{State}
 use Rattle.device.specs.declared.model.State.TheVariants.{Idle, Scanning, ForceScanning, ProtectionStop}
 use Rattle.device.specs.declared.model.Model.{Model}
+use Rattle.device.specs.declared.model.Asked.{Asked}
 
 -- fresh: idle, motor not stable, status and error code 0, with the info that the bench gives
 unfoldable pub fresh : Info → Model
@@ -76,3 +78,12 @@ setting status = refuse_if (ltb 1 status) (number_of NotAReply) (gives tt)
 -- the model with the status, 0 or 1, and the error code that the bench set
 unfoldable pub with_health : Model → ℕ → ℕ → Model
 with_health m status error = record { state = m.state; stable = m.stable; warning = eqb status 1; error = error; info = m.info }
+
+-- the model behind a request and behind a setting: the answer's, and the very one where it is refused
+unfoldable pub after : Model → Result Asked Refusal → Model
+after m (Ok r) = r.model
+after m (Err q) = m
+
+unfoldable pub set_after : Model → Result Model Refusal → Model
+set_after m (Ok r) = r
+set_after m (Err q) = m

@@ -1,15 +1,16 @@
 // The collector of requests: takes one byte with its time, and says which packet it completes.
-ghost use Rattle.std.specs.Prelude.{◌≡◌, cond, ◌-◌, ltb, eqb};
+ghost use Rattle.std.specs.Prelude.{◌≡◌, ◌-◌, cond, ltb, Some};
 ghost use Rattle.wire.specs.Request.{packet_time};
-ghost use Rattle.device.specs.Collector.{goes, begin, joining, started};
-ghost use Rattle.device.specs.inner.Collecting.{Told, going_on, completing, none};
+ghost use Rattle.device.specs.Collector.{answered};
+ghost use Rattle.device.specs.inner.Collecting.{Stepped};
 ghost use Rattle.device.specs.Promises.{FreshCollector, ByteCollected};
+ghost use Rattle.device.specs.declared.collector.Stage.TheVariants.{Empty};
 
 use paper::refusal::Refusal;
 use wire::request::Request;
 
 // How much of a packet is there.
-#[derive(Clone, Copy)]
+#[derive(Clone, Copy, Debug, PartialEq, Eq)]
 pub enum Stage {
     // Nothing: no packet is begun.
     Empty,
@@ -26,7 +27,7 @@ pub enum Stage {
     },
 }
 
-#[derive(Clone, Copy)]
+#[derive(Clone, Copy, Debug, PartialEq, Eq)]
 pub struct Collector {
     pub stage: Stage,
     // When the packet's A5 came.
@@ -36,18 +37,18 @@ pub struct Collector {
     pub last: u64,
 }
 
-// What a byte completes: of a packet, the payload is the first bytes of the lent memory.
-#[derive(Clone, Copy)]
-pub enum Completed {
-    Nothing,
-    Packet { request: Request, size: u8 },
-    Refused(Refusal),
+// A packet that is complete: its payload is the first bytes of the lent memory.
+#[derive(Clone, Copy, Debug, PartialEq, Eq)]
+pub struct Packet {
+    pub request: Request,
+    pub size: u8,
 }
 
-#[derive(Clone, Copy)]
+// The collector behind a byte, and the packet that the byte completes.
+#[derive(Clone, Copy, Debug, PartialEq, Eq)]
 pub struct Collected {
     pub collector: Collector,
-    pub answer: Completed,
+    pub packet: Option<Packet>,
 }
 
 impl Collector {
@@ -61,140 +62,93 @@ impl Collector {
         }
     }
 
-    pub fn byte(self, time: u64, b: u8, payload: &mut [u8; 255]) -> Collected
+    #[tactic(auto, using(crate::proofs::Collecting::earlier, crate::proofs::Collecting::met), unfolding(crate::specs::Collector::memory_after, crate::specs::inner::Collecting::begun_by, paper::specs::Outcome::if_given, paper::specs::Outcome::mapped, paper::specs::Refusals::outcome))]
+    pub fn byte(self, time: u64, b: u8, payload: &mut [u8; 255]) -> Result<Collected, Refusal>
         ensures { ByteCollected self time b payload.old result payload.new }
     {
         if time < self.last {
-            return Collected {
-                collector: self,
-                answer: Completed::Refused(Refusal::TimeEarlier),
-            };
+            return Err(Refusal::TimeEarlier);
         }
-        let begun = self.begun;
-        if is_late(begun, time) {
-            return start(time, b);
+        let (stage, packet) = self.stage_at(time).next(b, payload);
+        let begun = match stage {
+            Stage::Empty => 0,
+            Stage::Started => time,
+            Stage::Coded(_) | Stage::Sized { .. } => self.begun,
+        };
+        Ok(Collected {
+            collector: Collector {
+                stage,
+                begun,
+                last: time,
+            },
+            packet,
+        })
+    }
+
+    // The stage that a byte at a time meets: a late one discards the packet begun.
+    fn stage_at(self, time: u64) -> Stage
+        ensures { result ≡ cond (ltb packet_time (time - self.begun)) Empty self.stage }
+    {
+        if Request::PACKET_MS < time.saturating_sub(self.begun) {
+            Stage::Empty
+        } else {
+            self.stage
         }
-        let stage = self.stage;
-        match stage {
-            Stage::Empty => start(time, b),
-            Stage::Started => second(begun, time, b),
-            Stage::Coded(code) => going(code, b, 0, Request::START ^ code ^ b, begun, time),
+    }
+}
+
+impl Stage {
+    // The stage behind a byte that comes in time, and the packet that it completes.
+    #[tactic(auto, unfolding(crate::specs::inner::Collecting::stepping, crate::specs::inner::Collecting::begun_by, crate::specs::Collector::collected, crate::specs::Collector::begin, crate::specs::Collector::started, crate::specs::Collector::empty, crate::specs::Collector::joining, crate::specs::Collector::whole, crate::specs::Collector::wrong, crate::specs::Collector::part_of, crate::specs::Collector::stage_of, crate::specs::Collector::behind, crate::specs::Collector::payload_in, crate::specs::Collector::told, crate::specs::Collector::answered, paper::specs::Writing::over))]
+    fn next(self, b: u8, payload: &mut [u8; 255]) -> (Stage, Option<Packet>)
+        ensures { Stepped self b payload.old result payload.new }
+    {
+        match self {
+            Stage::Empty if b == Request::START => (Stage::Started, None),
+            Stage::Empty => (Stage::Empty, None),
+            Stage::Started if b < Request::WITH_PAYLOAD => whole(b, 0),
+            Stage::Started => (Stage::Coded(b), None),
+            Stage::Coded(code) => {
+                let sum = Request::START ^ code ^ b;
+                let sized = Stage::Sized {
+                    code,
+                    size: b,
+                    count: 0,
+                    sum,
+                };
+                (sized, None)
+            }
             Stage::Sized {
                 code,
                 size,
                 count,
                 sum,
-            } => {
-                let memory: &mut [u8] = payload;
-                if count < size {
-                    memory[count as usize] = b;
-                    return going(code, size, count + 1, sum ^ b, begun, time);
-                }
-                last(code, size, sum, time, b)
+            } if count < size => {
+                payload[usize::from(count)] = b;
+                let more = Stage::Sized {
+                    code,
+                    size,
+                    count: count + 1,
+                    sum: sum ^ b,
+                };
+                (more, None)
             }
+            Stage::Sized {
+                code,
+                size,
+                sum,
+                ..
+            } if b == sum => whole(code, size),
+            Stage::Sized { .. } => (Stage::Empty, None),
         }
     }
 }
 
-// A byte at a time comes too late for a packet begun: by the difference, so that no sum can wrap.
-fn is_late(begun: u64, time: u64) -> bool
-    ensures { result ≡ ltb packet_time (time - begun) }
+// A packet is complete, and no other is begun.
+#[tactic(auto, unfolding(crate::specs::Collector::answered))]
+fn whole(code: u8, size: u8) -> (Stage, Option<Packet>)
+    ensures { result ≡ (Empty, Some (answered code size)) }
 {
-    if time < begun {
-        return false;
-    }
-    Request::PACKET_MS < time - begun
-}
-
-// A byte with nothing begun before it.
-fn start(time: u64, b: u8) -> Collected
-    ensures { Told (goes (begin time b)) time result }
-{
-    if b == Request::START {
-        return Collected {
-            collector: Collector {
-                stage: Stage::Started,
-                begun: time,
-                last: time,
-            },
-            answer: Completed::Nothing,
-        };
-    }
-    nothing(time)
-}
-
-// The byte behind an A5.
-fn second(begun: u64, time: u64, b: u8) -> Collected
-    ensures { Told (joining (started begun) b) time result }
-{
-    if b < Request::WITH_PAYLOAD {
-        return packet(b, 0, time);
-    }
-    Collected {
-        collector: Collector {
-            stage: Stage::Coded(b),
-            begun,
-            last: time,
-        },
-        answer: Completed::Nothing,
-    }
-}
-
-// A packet with a size goes on.
-fn going(code: u8, size: u8, count: u8, sum: u8, begun: u64, time: u64) -> Collected
-    ensures { result ≡ going_on code size count sum begun time }
-{
-    Collected {
-        collector: Collector {
-            stage: Stage::Sized {
-                code,
-                size,
-                count,
-                sum,
-            },
-            begun,
-            last: time,
-        },
-        answer: Completed::Nothing,
-    }
-}
-
-// The checksum of a packet with a size.
-fn last(code: u8, size: u8, sum: u8, time: u64, b: u8) -> Collected
-    ensures { result ≡ cond (eqb b sum) (completing code size time) (none time) }
-{
-    if b == sum {
-        return packet(code, size, time);
-    }
-    nothing(time)
-}
-
-fn packet(code: u8, size: u8, time: u64) -> Collected
-    ensures { result ≡ completing code size time }
-{
-    Collected {
-        collector: Collector {
-            stage: Stage::Empty,
-            begun: 0,
-            last: time,
-        },
-        answer: Completed::Packet {
-            request: Request(code),
-            size,
-        },
-    }
-}
-
-// No packet is begun.
-fn nothing(time: u64) -> Collected
-    ensures { result ≡ none time }
-{
-    Collected {
-        collector: Collector {
-            stage: Stage::Empty,
-            begun: 0,
-            last: time,
-        },
-        answer: Completed::Nothing,
-    }
+    let request = Request(code);
+    (Stage::Empty, Some(Packet { request, size }))
 }

@@ -1,14 +1,13 @@
 // The bench model of the scanner: idle, scanning or in protection stop, asked by requests and for samples, and set by the bench.
-ghost use Rattle.std.specs.Prelude.{◌≡◌, cond, []};
-ghost use Rattle.paper.specs.Outcome.{gives};
+ghost use Rattle.std.specs.Prelude.{◌≡◌};
 ghost use Rattle.paper.specs.Writing.{Writes};
-ghost use Rattle.wire.specs.Descriptor.{scan_descriptor, info_descriptor, health_descriptor};
-ghost use Rattle.wire.specs.Reply.{error_status, bytes_of_info, bytes_of_health};
-ghost use Rattle.device.specs.Model.{protected, state_after, health_now, behind_descriptor, sent, sends_samples, sample_sent};
+ghost use Rattle.wire.specs.Descriptor.{info_descriptor, health_descriptor};
+ghost use Rattle.wire.specs.Reply.{bytes_of_info, bytes_of_health};
+ghost use Rattle.device.specs.Model.{state_after, health_now, behind_descriptor, sent, sends_samples, sample_sent};
 ghost use Rattle.device.specs.Promises.{FreshModel, Asking, InAnother, MotorSet, ErrorSet, HealthSetting};
 ghost use Rattle.device.specs.declared.model.State.TheVariants.{ProtectionStop};
 
-use paper::refusal::{Answer, Refusal, Written};
+use paper::refusal::Refusal;
 use paper::write;
 use wire::descriptor::Descriptor;
 use wire::reply::{Health, Info};
@@ -16,7 +15,7 @@ use wire::request::{Kind, Request};
 use wire::sample::Sample;
 
 // What the scanner is doing; scanning remembers whether SCAN or FORCE_SCAN came last.
-#[derive(Clone, Copy)]
+#[derive(Clone, Copy, Debug, PartialEq, Eq)]
 pub enum State {
     Idle,
     Scanning,
@@ -24,7 +23,7 @@ pub enum State {
     ProtectionStop,
 }
 
-#[derive(Clone, Copy)]
+#[derive(Clone, Copy, Debug, PartialEq, Eq)]
 pub struct Model {
     pub state: State,
     // Whether the bench says that the motor is stable.
@@ -40,21 +39,15 @@ pub struct Model {
     pub info: Info,
 }
 
-// The model behind a request, and the count of bytes sent; where it is refused, the model as it was.
-#[derive(Clone, Copy)]
+// The model behind a request, and the count of bytes sent.
+#[derive(Clone, Copy, Debug, PartialEq, Eq)]
 pub struct Asked {
     pub model: Model,
-    pub answer: Written,
-}
-
-// The model behind a setting; where it is refused, the model as it was.
-#[derive(Clone, Copy)]
-pub struct HealthSet {
-    pub model: Model,
-    pub answer: Answer,
+    pub bytes: usize,
 }
 
 impl Model {
+    #[tactic(auto, unfolding(crate::specs::Model::fresh))]
     pub fn new(info: Info) -> Model
         ensures { FreshModel info result }
     {
@@ -68,222 +61,142 @@ impl Model {
     }
 
     // What the model sends on a request.
-    pub fn request(self, request: Request, out: &mut [u8]) -> Asked
+    #[tactic(auto, unfolding(crate::specs::Model::in_state, paper::specs::Outcome::if_given, paper::specs::Outcome::mapped, paper::specs::Refusals::outcome, paper::specs::Writing::fitting))]
+    pub fn request(self, request: Request, out: &mut [u8]) -> Result<Asked, Refusal>
         ensures { Asking self request out.old result out.new }
     {
         let kind = request.kind();
-        let state = self.state;
-        let answer = send(self, kind, out);
-        match answer {
-            Written::Bytes(_) => Asked {
-                model: go(self, after(state, kind)),
-                answer,
-            },
-            Written::Refused(_) => Asked {
-                model: self,
-                answer,
-            },
-        }
+        let bytes = self.send(kind, out)?;
+        let state = self.state.after(kind);
+        Ok(Asked {
+            model: Model { state, ..self },
+            bytes,
+        })
     }
 
-    pub fn sample(self, sample: Sample, out: &mut [u8]) -> Written
+    #[tactic(auto, unfolding(crate::specs::Model::sample_sent, paper::specs::Outcome::refuse_if, paper::specs::Outcome::if_given, paper::specs::Outcome::mapped, paper::specs::Refusals::outcome, paper::specs::Writing::fitting))]
+    pub fn sample(self, sample: Sample, out: &mut [u8]) -> Result<usize, Refusal>
         ensures { Writes (sample_sent self sample) out.old result out.new }
     {
-        let state = self.state;
-        if !sends_samples(state, self.stable) {
-            return Written::Refused(Refusal::NoSampleSent);
+        if !self.sends_samples() {
+            return Err(Refusal::NoSampleSent);
         }
         sample.write(out)
     }
 
+    #[tactic(auto, unfolding(crate::specs::Model::in_state))]
     pub fn fault(self) -> Model
         ensures { InAnother self ProtectionStop result }
     {
-        go(self, State::ProtectionStop)
+        let state = State::ProtectionStop;
+        Model { state, ..self }
     }
 
     pub fn set_motor(self, stable: bool) -> Model
         ensures { MotorSet self stable result }
     {
-        let state = self.state;
-        let info = self.info;
-        Model {
-            state,
-            stable,
-            warning: self.warning,
-            error: self.error,
-            info,
-        }
+        Model { stable, ..self }
     }
 
     pub fn set_error(self, error: u16) -> Model
         ensures { ErrorSet self error result }
     {
-        let state = self.state;
-        let info = self.info;
-        Model {
-            state,
-            stable: self.stable,
-            warning: self.warning,
-            error,
-            info,
-        }
+        Model { error, ..self }
     }
 
     // The status alone.
-    pub fn set_status(self, status: u8) -> HealthSet
+    pub fn set_status(self, status: u8) -> Result<Model, Refusal>
         ensures { HealthSetting self status self.error result }
     {
-        Model::set_health(self, status, self.error)
+        self.set_health(status, self.error)
     }
 
     // Status and error code together.
-    #[tactic(auto, unfolding(crate::specs::Model::setting, crate::specs::Model::with_health, paper::specs::Outcome::refuse_if, paper::specs::Outcome::if_given, paper::specs::Refusals::answered))]
-    pub fn set_health(self, status: u8, error: u16) -> HealthSet
+    #[tactic(auto, unfolding(crate::specs::Model::setting, crate::specs::Model::with_health, paper::specs::Outcome::refuse_if, paper::specs::Outcome::mapped, paper::specs::Refusals::outcome))]
+    pub fn set_health(self, status: u8, error: u16) -> Result<Model, Refusal>
         ensures { HealthSetting self status error result }
     {
         if 1 < status {
-            return HealthSet {
-                model: self,
-                answer: Answer::Refused(Refusal::NotAReply),
-            };
+            return Err(Refusal::NotAReply);
         }
-        let state = self.state;
-        let info = self.info;
-        HealthSet {
-            model: Model {
-                state,
-                stable: self.stable,
-                warning: status == 1,
-                error,
-                info,
-            },
-            answer: Answer::Done,
+        Ok(Model {
+            warning: status == 1,
+            error,
+            ..self
+        })
+    }
+
+    #[tactic(auto, unfolding(crate::specs::Model::sends_samples))]
+    fn sends_samples(self) -> bool
+        ensures { result ≡ sends_samples self.state self.stable }
+    {
+        match self.state {
+            State::ForceScanning => true,
+            State::Scanning => self.stable,
+            State::Idle | State::ProtectionStop => false,
+        }
+    }
+
+    // What a request has the model send.
+    #[tactic(auto, unfolding(crate::specs::Model::sent, crate::specs::Model::protected, wire::specs::Descriptor::scan_descriptor, paper::specs::Outcome::refuse_if, paper::specs::Writing::over, paper::specs::Outcome::if_given, paper::specs::Outcome::mapped, paper::specs::Refusals::outcome, paper::specs::Writing::fitting))]
+    fn send(self, kind: Kind, out: &mut [u8]) -> Result<usize, Refusal>
+        ensures { Writes (sent self kind) out.old result out.new }
+    {
+        match kind {
+            Kind::Stop | Kind::Reset => Ok(0),
+            Kind::Scan | Kind::ForceScan if self.state == State::ProtectionStop => Ok(0),
+            Kind::Scan | Kind::ForceScan => write::write(&Descriptor::SCAN, out),
+            Kind::GetInfo => send_info(self.info, out),
+            Kind::GetHealth => send_health(self.health(), out),
+            Kind::Other => Err(Refusal::CodeNotPermitted),
+        }
+    }
+
+    #[tactic(auto, unfolding(crate::specs::Model::health_now, crate::specs::Model::protected))]
+    fn health(self) -> Health
+        ensures { result ≡ health_now self }
+    {
+        let status = if self.state == State::ProtectionStop {
+            Health::ERROR
+        } else {
+            u8::from(self.warning)
+        };
+        Health {
+            status,
+            error: self.error,
         }
     }
 }
 
-// The model in another state.
-fn go(model: Model, state: State) -> Model
-    ensures { InAnother model state result }
-{
-    let info = model.info;
-    Model {
-        state,
-        stable: model.stable,
-        warning: model.warning,
-        error: model.error,
-        info,
+impl State {
+    // The state behind a request.
+    #[tactic(auto, unfolding(crate::specs::Model::state_after, crate::specs::Model::protected))]
+    fn after(self, kind: Kind) -> State
+        ensures { result ≡ state_after kind self }
+    {
+        match kind {
+            Kind::Reset => State::Idle,
+            Kind::Other => self,
+            _ if self == State::ProtectionStop => self,
+            Kind::Scan => State::Scanning,
+            Kind::ForceScan => State::ForceScanning,
+            Kind::Stop | Kind::GetInfo | Kind::GetHealth => State::Idle,
+        }
     }
 }
 
-// The state behind a request.
-fn after(state: State, kind: Kind) -> State
-    ensures { result ≡ state_after kind state }
-{
-    match kind {
-        Kind::Stop => unless_stopped(state, State::Idle),
-        Kind::Reset => State::Idle,
-        Kind::Scan => unless_stopped(state, State::Scanning),
-        Kind::ForceScan => unless_stopped(state, State::ForceScanning),
-        Kind::GetInfo => unless_stopped(state, State::Idle),
-        Kind::GetHealth => unless_stopped(state, State::Idle),
-        Kind::Other => state,
-    }
-}
-
-fn unless_stopped(state: State, next: State) -> State
-    ensures { result ≡ protected state ProtectionStop next }
-{
-    match state {
-        State::Idle => next,
-        State::Scanning => next,
-        State::ForceScanning => next,
-        State::ProtectionStop => State::ProtectionStop,
-    }
-}
-
-fn sends_samples(state: State, stable: bool) -> bool
-    ensures { result ≡ sends_samples state stable }
-{
-    match state {
-        State::Idle => false,
-        State::Scanning => stable,
-        State::ForceScanning => true,
-        State::ProtectionStop => false,
-    }
-}
-
-// What a request has the model send.
-fn send(model: Model, kind: Kind, out: &mut [u8]) -> Written
-    ensures { Writes (sent model kind) out.old result out.new }
-{
-    let state = model.state;
-    match kind {
-        Kind::Stop => Written::Bytes(0),
-        Kind::Reset => Written::Bytes(0),
-        Kind::Scan => send_scan(state, out),
-        Kind::ForceScan => send_scan(state, out),
-        Kind::GetInfo => send_info(model.info, out),
-        Kind::GetHealth => send_health(model, out),
-        Kind::Other => Written::Refused(Refusal::CodeNotPermitted),
-    }
-}
-
-fn send_scan(state: State, out: &mut [u8]) -> Written
-    ensures { Writes (gives (protected state [] scan_descriptor)) out.old result out.new }
-{
-    match state {
-        State::Idle => send_descriptor(out),
-        State::Scanning => send_descriptor(out),
-        State::ForceScanning => send_descriptor(out),
-        State::ProtectionStop => Written::Bytes(0),
-    }
-}
-
-fn send_descriptor(out: &mut [u8]) -> Written
-    ensures { Writes (gives scan_descriptor) out.old result out.new }
-{
-    let descriptor = Descriptor::SCAN;
-    write::write(&descriptor, out)
-}
-
-fn send_info(info: Info, out: &mut [u8]) -> Written
+fn send_info(info: Info, out: &mut [u8]) -> Result<usize, Refusal>
     ensures { Writes (behind_descriptor info_descriptor (bytes_of_info info)) out.old result out.new }
 {
-    let descriptor = Descriptor::INFO;
     let mut reply = [0u8; Info::BYTES];
-    info.write(&mut reply);
-    write::write_both(&descriptor, &reply, out)
+    info.write(&mut reply)?;
+    write::write_both(&Descriptor::INFO, &reply, out)
 }
 
-fn send_health(model: Model, out: &mut [u8]) -> Written
-    ensures { Writes (behind_descriptor health_descriptor (bytes_of_health (health_now model))) out.old result out.new }
+fn send_health(health: Health, out: &mut [u8]) -> Result<usize, Refusal>
+    ensures { Writes (behind_descriptor health_descriptor (bytes_of_health health)) out.old result out.new }
 {
-    let descriptor = Descriptor::HEALTH;
     let mut reply = [0u8; Health::BYTES];
-    let state = model.state;
-    let health = Health {
-        status: status_now(state, model.warning),
-        error: model.error,
-    };
-    health.write(&mut reply);
-    write::write_both(&descriptor, &reply, out)
-}
-
-fn status_now(state: State, warning: bool) -> u8
-    ensures { result ≡ protected state error_status (cond warning 1 0) }
-{
-    match state {
-        State::Idle => status_set(warning),
-        State::Scanning => status_set(warning),
-        State::ForceScanning => status_set(warning),
-        State::ProtectionStop => Health::ERROR,
-    }
-}
-
-fn status_set(warning: bool) -> u8
-    ensures { result ≡ cond warning 1 0 }
-{
-    if warning { 1 } else { 0 }
+    health.write(&mut reply)?;
+    write::write_both(&Descriptor::HEALTH, &reply, out)
 }

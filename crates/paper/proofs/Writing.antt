@@ -1,5 +1,5 @@
 -- How a writer's promise is met: `writes_all`, `writes_short`, `writes_refused`; of bytes put at a place: `put_done`, `put_short`; and what a writer
--- that wrote n bytes gave: `written_front`.
+-- that wrote n bytes gave: `written_front`; where the count stands in an answer: `written_count`.
 use Prim.Native.Nat.{ℕ, ◌+◌, ◌<◌, ◌≤◌}
 use mathlib.Core.Path.{◌≡◌, refl, sym, ap, ◌∙◌}
 use mathlib.Core.Bool.{Bool, true, false}
@@ -16,7 +16,7 @@ use Rattle.paper.specs.Writing.{fitting, over, Writes}
 use Rattle.paper.specs.Promises.{placing, put_at, BytesPut}
 use Rattle.paper.specs.declared.refusal.Refusal.{Refusal}
 use Rattle.paper.specs.declared.refusal.Refusal.TheVariants.{OutputShort}
-use Rattle.paper.proofs.Outcome.{gives_one, gives_refuses, refuse_yes, refuse_no}
+use Rattle.paper.proofs.Outcome.{gives_one, gives_refuses, refuse_yes, refuse_no, mapped_given}
 use Rattle.paper.proofs.Placing.{put_more, put_front}
 
 pub fitting_yes : (xs : List ℕ) (room : ℕ) → length xs ≤ room → fitting room (gives xs) ≡ gives xs
@@ -141,3 +141,11 @@ written_front (gives xs) was is n w = go (ltb (length was) (length xs)) refl
         let size : n ≡ length xs = gives_one (w.answer ∙ ap (mapped length) f) in
         let all : is ≡ over was xs = w.output ∙ ap (λ (o : Outcome (List ℕ)). if_given o (over was) was) f in
         record { bytes = xs; given = refl; front = ap (take n) all ∙ take_at xs (drop (length xs) was) n (sym size) }
+
+-- an answer made of the bytes written has their count
+pub written_count : {A : Type 0} {o : Outcome (List ℕ)} {was is : List ℕ} {a : A} (count : A → ℕ) (f : List ℕ → A) → ((xs : List ℕ) → count (f xs) ≡ length xs)
+    → gives a ≡ mapped f (fitting (length was) o) → is ≡ if_given (fitting (length was) o) (over was) was → Writes o was (Ok (count a)) is
+unfolding outcome mapped
+written_count {o = o} {was = was} count f c e w =
+    let g = mapped_given f (fitting (length was) o) e in
+    record { answer = rw g.1.0 (ap gives (ap count g.1.1 ∙ c g.0)); output = w }
