@@ -5,11 +5,11 @@ use mathlib.Core.Path.{◌≡◌, refl, sym, ap, ap₂, ◌∙◌}
 use mathlib.Core.List.{List, [], ◌++◌, map, map-append, flat_map, append-nil, append_assoc}
 use native.Mathlib.Omega.{arith}
 use lib.ListN.{length, take, drop, take-append-drop}
-use Rattle.paper.specs.Outcome.{Outcome, gives, refuses, if_given, mapped}
-use Rattle.paper.specs.Refusals.{number_of, answered}
+use Rattle.paper.specs.Outcome.{Outcome, gives, refuses, mapped}
+use Rattle.paper.specs.Refusals.{number_of, outcome}
+use Rattle.std.specs.Prelude.{Ok, Err, Result as Answered}
 use Rattle.paper.specs.declared.refusal.Refusal.{Refusal}
-use Rattle.paper.specs.declared.refusal.Answer.TheVariants as answer
-use Rattle.paper.proofs.Outcome.{gives_refuses, refuses_one}
+use Rattle.paper.proofs.Outcome.{gives_refuses, refuses_one, mapped_given}
 use Rattle.framing.specs.Framing.{State, fresh, fed}
 use Rattle.framing.specs.Run.{Result, stopped, joined, run, skipped, events}
 use Rattle.framing.specs.Calls.{outputs, Answer}
@@ -21,13 +21,12 @@ use Rattle.framing.proofs.Stream.{lost_steps, heard_bytes}
 use Rattle.wire.specs.declared.request.Request.{Request}
 use Rattle.stream.specs.Table.{Event, Thing, width, reader, giving}
 use Rattle.stream.specs.State.{held_of, meaning, capped, written, idle}
-use Rattle.stream.specs.Telling.{opens, told_reader, begins}
+use Rattle.stream.specs.Telling.{opens, begun, after, begins}
 use Rattle.stream.specs.Promises.{Made, called, Reads, Tells}
 use Rattle.stream.specs.History.{Seen, seen_by, History, over as none_left, reads as one_call, tells as one_telling, Plain}
 use Rattle.stream.specs.declared.Phase.{Phase}
 use Rattle.stream.specs.declared.Reader.{Reader}
 use Rattle.stream.specs.declared.Reading.{Reading}
-use Rattle.stream.specs.declared.Told.{Told}
 use Rattle.stream.proofs.Table.{width_pos, reader_lawful}
 use Rattle.stream.proofs.History.{meaning_written, call_means, call_none_due, history_heard, one_reading, history_plain, cut_anywhere, idle_plain}
 use Rattle.stream.proofs.inner.Promise.{waits}
@@ -134,39 +133,34 @@ none_skipped : idle.skipped + length (held_of idle) ≡ 0
 unfolding idle written capped held_of width
 none_skipped = refl
 
-refused_by : (n : Refusal) (bs : List ℕ) (o : Outcome Phase) → answered (answer.Refused n) ≡ mapped (λ p. tt) o → refused_line (number_of n) ≡ text_by o bs
-unfolding answered mapped text_by
-refused_by n bs (gives p) e = absurd (gives_refuses (sym e))
-refused_by n bs (refuses m) e = ap refused_line (refuses_one e)
+refused_by : {A : Type 0} (f : Phase → A) (m : ℕ) (bs : List ℕ) (o : Outcome Phase) → refuses m ≡ mapped f o → refused_line m ≡ text_by o bs
+unfolding mapped text_by
+refused_by f m bs (gives p) e = absurd (gives_refuses (sym e))
+refused_by f m bs (refuses n) e = ap refused_line (refuses_one e)
 
-module _ {s : Reader} {q : Request} {t : Told} (made : Made s) (tells : Tells s q t) where
-  told_plain : Plain t.reader
-  unfolding Plain
-  told_plain = history_plain (one_telling q t tells none_left) (rw made.answer idle_plain)
+module _ {s : Reader} {q : Request} {t : Answered Reader Refusal} (made : Made s) (tells : Tells s q t) where
+  -- a code that the reader takes begins a phase, with nothing held and nothing skipped
+  opened : {r : Reader} → t ≡ Ok r → (p : Phase) × ((opens q ≡ gives p) × (r ≡ written (fresh p) 0))
+  unfolding outcome
+  opened {r} e =
+      let g = mapped_given (begun s) (opens q) (ap outcome (sym e) ∙ tells.answer) in
+      let none : s.skipped + length (held_of s) ≡ 0 = rw made.answer none_skipped in
+      (g.0, (g.1.0, g.1.1 ∙ ap (written (fresh g.0)) none))
 
-  told_as : (p : Phase) → opens q ≡ gives p → t.reader ≡ written (fresh p) 0
-  unfolding told_reader if_given
-  told_as p e = tells.reader ∙ rw (e, made.answer, none_skipped)
-
-  opened : t.answer ≡ answer.Done → (p : Phase) × (opens q ≡ gives p)
-  unfolding answered mapped
-  opened e = by (opens q) refl (ap answered (sym e) ∙ tells.answer)
-    where
-      by : (o : Outcome Phase) → opens q ≡ o → answered answer.Done ≡ mapped (λ p. tt) o → (p : Phase) × (opens q ≡ gives p)
-      by (gives p) f g = (p, f)
-      by (refuses n) f g = absurd (gives_refuses g)
+  told_plain : {r : Reader} → t ≡ Ok r → Plain r
+  unfolding after
+  told_plain e = rw e at (history_plain (one_telling q t tells none_left) (rw made.answer idle_plain))
 
   -- WHAT IS PRINTED: of a fresh reader that is told a code it takes, the texts of any calls, until no byte is left, and the last line
-  pub scan_listed : {z : Reader} {bs text : List ℕ} → t.answer ≡ answer.Done → Listed t.reader bs text z
-      → text ++ end_line (length bs) z.skipped z.n ≡ scan_text q bs
+  pub scan_listed : {r z : Reader} {bs text : List ℕ} → t ≡ Ok r → Listed r bs text z → text ++ end_line (length bs) z.skipped z.n ≡ scan_text q bs
   unfolding scan_text text_by written capped
   scan_listed e u =
       let o = opened e in
       let p : Phase = o.0 in
-      let f = told_as p o.1 in
-      rw o.1 (from_fresh p told_plain (ap meaning f ∙ meaning_written (fresh p) 0 (width_pos p)) (ap (λ (x : Reader). x.skipped) f) u)
+      let f = o.1.1 in
+      rw o.1.0 (from_fresh p (told_plain e) (ap meaning f ∙ meaning_written (fresh p) 0 (width_pos p)) (ap (λ (x : Reader). x.skipped) f) u)
 
   -- and of a code that it refuses
-  pub scan_refused : {n : Refusal} (bs : List ℕ) → t.answer ≡ answer.Refused n → refused_line (number_of n) ≡ scan_text q bs
-  unfolding scan_text
-  scan_refused {n} bs e = refused_by n bs (opens q) (ap answered (sym e) ∙ tells.answer)
+  pub scan_refused : {n : Refusal} (bs : List ℕ) → t ≡ Err n → refused_line (number_of n) ≡ scan_text q bs
+  unfolding scan_text outcome
+  scan_refused {n} bs e = refused_by (begun s) (number_of n) bs (opens q) (ap outcome (sym e) ∙ tells.answer)

@@ -2,7 +2,7 @@
 use Prim.Native.Nat.{ℕ, suc, ◌+◌, ◌*◌, ◌/◌, ◌%◌, ◌^◌, ◌≤◌, ◌<◌}
 use mathlib.Core.List.{List, [], ◌∷◌, ◌++◌, flat_map}
 use native.Mathlib.Omega.{arith}
-use lib.ListN.{length, take, length-append, length-take}
+use lib.ListN.{length, get_or, take, length-append, length-take}
 use Rattle.paper.specs.Words.{Each}
 use Rattle.stream.specs.declared.Phase.{Phase}
 use Rattle.stream.specs.declared.Phase.TheVariants.{Idle, SeekInfo, SeekHealth, SeekScan, InfoReply, HealthReply, Scanning}
@@ -14,6 +14,12 @@ use Rattle.text.specs.Refused.{space, newline}
 use Rattle.text.proofs.Decimal.{decimal_short}
 use Rattle.scantext.specs.Lines.{sample_word, reply_word, end_word, skipped_word, held_word, field, reply_line, sample_line, end_line, row_lines, reply_bytes, stop_line, call_text, room_for}
 use Rattle.scantext.proofs.Lines.{hexes_long}
+
+-- words of 16 bits
+pub each_below : (words : List ℕ) → ((i : ℕ) → get_or words i 0 < 65536) → Each (λ (w : ℕ). w < 65536) words
+unfolding Each
+each_below [] f = tt
+each_below (w ∷ ws) f = (f 0, each_below ws (λ i. f (suc i)))
 
 -- ---- how long lines are
 

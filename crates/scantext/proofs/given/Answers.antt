@@ -1,27 +1,17 @@
 -- `scantext::given` meets its contract.
-use mathlib.Core.Path.{◌∙◌}
-use native.Mathlib.Omega.{arith}
+use Rattle.std.proofs.Common.{rules, arith}
+use Rattle.text.proofs.Pieces.{added_more, added_left}
+use Rattle.scantext.specs.Lines.{call_text}
+use Rattle.scantext.proofs.Room.{each_below, call_short}
 use Rattle.scantext.proofs.Written.{given_short, given_written}
-use Rattle.std.proofs.Common.{rules}
 use Rattle.scantext.proofs.given.Goals as goal
 
-pub returns-then-out-lt-STOP_ROOM : goal.returns-then-out-lt-STOP_ROOM
-returns-then-out-lt-STOP_ROOM c = given_short _ _ _ _ _ (omega arith)
-
-pub returns-then-out-words : goal.returns-then-out-words
-returns-then-out-words c = given_short _ _ _ _ _ (omega (arith, c.if-out-words.true))
-
-pub put_row-next-requires : goal.put_row-next-requires
-put_row-next-requires c = omega (arith, c.if-out-words.false)
-
-pub put_stop-requires : goal.put_stop-requires
-put_stop-requires c = let row = c.put_row-next.ensures in
-    record { reply_len = search rules; from_in_bounds = omega (arith, row.0.size, row.1, c.if-out-words.false, c.if-out-lt-STOP_ROOM.false) }
-
-pub shape_of-out : goal.shape_of-out
-shape_of-out c = c.put_stop.ensures.0.size ∙ c.put_row-next.ensures.0.size
+pub returns-then-not-has_room : goal.returns-then-not-has_room
+returns-then-not-has_room c = given_short _ _ _ _ _ c.if-not-has_room.ensures
 
 pub returns : goal.returns
-returns c = let row = c.put_row-next.ensures in
-    let end = c.put_stop.ensures in
-    given_written _ _ _ _ _ (omega (arith, c.if-out-words.false, c.if-out-lt-STOP_ROOM.false)) row.0 end.0 (omega (arith, row.1, end.1))
+unfolding call_text
+returns c =
+    let room = c.if-not-has_room.ensures in
+    let fit = call_short c.args.phase c.args.words.now c.args.stop c.args.reply.now (each_below c.args.words.now (λ i. (c.type_inv.words i).fits)) in
+    given_written _ _ _ _ _ room (omega (arith, fit, room)) (added_left (added_more c.put_row.ensures c.put_stop.ensures) (omega (arith, fit, room)) (search rules))
