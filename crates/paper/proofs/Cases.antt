@@ -2,7 +2,7 @@
 use Prim.Native.Nat.{ℕ}
 use mathlib.Core.Path.{◌≡◌, refl}
 use mathlib.Core.Bool.{Bool, true, false, ◌&&◌}
-use mathlib.Core.Option.{none, some}
+use Rattle.std.specs.Prelude.{Some, None}
 use native.Mathlib.Omega.{arith}
 
 -- of two tests that hold together each holds
@@ -10,6 +10,6 @@ pub both_hold : (a b : Bool) → a && b ≡ true → (a ≡ true) × (b ≡ true
 both_hold true b e = (refl, e)
 both_hold false b e = let z : ◌≡◌ {A = ℕ} 0 1 = cc in absurd (omega arith)
 
--- none is not some
-pub none_some : {A : Type 0} {a : A} → none ≡ some a → ⊥
+-- None is not Some
+pub none_some : {A : Type 0} {a : A} → None ≡ Some a → ⊥
 none_some e = let z : ◌≡◌ {A = ℕ} 0 1 = cc in omega arith
