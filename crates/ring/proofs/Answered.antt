@@ -8,12 +8,11 @@ use mathlib.Core.List.{List}
 use lib.Dec.{leb}
 use lib.ListN.{length}
 use borrow.Author.Tests.{le-leb, lt-leb, leb-false, eq-eqb, ne_eqb, eqb-true, not-false}
+use Rattle.std.specs.Prelude.{Ok, Err}
 use Rattle.paper.specs.Outcome.{Outcome, gives, refuses, refuse_if, if_given, mapped}
-use Rattle.paper.specs.Refusals.{number_of, answered}
+use Rattle.paper.specs.Refusals.{number_of, outcome}
 use Rattle.paper.specs.declared.refusal.Refusal.{Refusal}
 use Rattle.paper.specs.declared.refusal.Refusal.TheVariants.{NotARecord, NotARing, HeadOver, NoSuchNumber}
-use Rattle.paper.specs.declared.refusal.Answer.{Answer}
-use Rattle.paper.specs.declared.refusal.Answer.TheVariants.{Done, Refused}
 use Rattle.paper.proofs.Outcome.{gives_one, refuses_one, gives_refuses, refuse_not, refuse_yes, refuse_no}
 use Rattle.record.specs.Record.{reads}
 use Rattle.ring.specs.Ring.{head_of, IsRing, held, turn_at}
@@ -22,21 +21,21 @@ use Rattle.ring.specs.inner.Checks.{ringing, asking}
 
 -- ---- answers of the code
 
-pub done_is : {o : Outcome (Unit {0})} → o ≡ gives tt → answered Done ≡ o
-unfolding answered
+pub done_is : {o : Outcome (Unit {0})} → o ≡ gives tt → outcome (Ok tt) ≡ o
+unfolding outcome
 done_is e = sym e
 
-pub refused_is : {o : Outcome (Unit {0})} (r : Refusal) → o ≡ refuses (number_of r) → answered (Refused r) ≡ o
-unfolding answered
+pub refused_is : {A : Type 0} {o : Outcome A} (r : Refusal) → o ≡ refuses (number_of r) → outcome (Err r) ≡ o
+unfolding outcome
 refused_is r e = sym e
 
-pub means_done : {a : Answer} {o : Outcome (Unit {0})} → answered a ≡ o → a ≡ Done → o ≡ gives tt
-unfolding answered
-means_done p e = rw e at (sym p)
+pub means_done : {o : Outcome (Unit {0})} → outcome (Ok tt) ≡ o → o ≡ gives tt
+unfolding outcome
+means_done p = sym p
 
-pub means_refused : {a : Answer} {r : Refusal} {o : Outcome (Unit {0})} → answered a ≡ o → a ≡ Refused r → o ≡ refuses (number_of r)
-unfolding answered
-means_refused p e = rw e at (sym p)
+pub means_refused : {A : Type 0} {o : Outcome A} (r : Refusal) → outcome (Err r) ≡ o → o ≡ refuses (number_of r)
+unfolding outcome
+means_refused r p = sym p
 
 -- what is made of something given, and what stands where it is refused
 pub given_yes : {A B : Type 0} {o : Outcome A} {a : A} (f : A → B) (other : B) → o ≡ gives a → if_given o f other ≡ f a
@@ -96,11 +95,6 @@ module _ (S : ℕ) (mem : List ℕ) where
       let head = refuse_not _ _ o size.1 in
       (eqb-true _ _ (not-false _ size.0), leb-false _ _ head.0, head.1)
 
-  pub ring_is : 2 ≤ S → S ≤ 128 → ringing S mem ≡ gives tt → IsRing S mem
-  ring_is two byte d =
-      let w = ring_means (gives tt) d in
-      record { two_slots = two; head_is_byte = byte; size = w.0; head = w.1 }
-
   pub ring_same : {A B : Type 0} {o : Outcome A} {o' : Outcome B} {m : ℕ} → (o ≡ refuses m → o' ≡ refuses m)
       → of_ring S mem o ≡ refuses m → of_ring S mem o' ≡ refuses m
   unfolding of_ring sized
@@ -151,10 +145,6 @@ module _ (S : ℕ) (mem rec : List ℕ) (k : ℕ) where
 -- ---- questions
 
 module _ (S : ℕ) (mem : List ℕ) (i : ℕ) where
-  pub asking_ring : {m : ℕ} → ringing S mem ≡ refuses m → asking S mem i ≡ refuses m
-  unfolding asking
-  asking_ring e = no_ring S mem _ e
-
   module _ (d : ringing S mem ≡ gives tt) where
     pub asking_number : held S (head_of mem) ≤ i → asking S mem i ≡ refuses (number_of NoSuchNumber)
     unfolding asking
@@ -167,14 +157,6 @@ module _ (S : ℕ) (mem : List ℕ) (i : ℕ) where
     asking_ok l =
         let w = ring_means S mem (gives tt) d in
         ring_ok S mem _ w.0 w.1 ∙ refuse_no _ _ (lt-leb (held S (head_of mem)) i l)
-
-  pub asking_means : 2 ≤ S → S ≤ 128 → asking S mem i ≡ gives tt → IsRing S mem × (i < held S (head_of mem))
-  unfolding asking
-  asking_means two byte d =
-      let ring = ring_means S mem _ d in (
-        record { two_slots = two; head_is_byte = byte; size = ring.0; head = ring.1 },
-        leb-false _ _ (refuse_not _ _ _ ring.2).0,
-      )
 
   -- there is no such turn: it is not read
   pub reading_none : {m : ℕ} → asking S mem i ≡ refuses m → reading S mem i ≡ refuses m

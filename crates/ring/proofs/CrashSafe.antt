@@ -13,17 +13,17 @@ use native.Mathlib.Omega.{arith}
 use lib.ListN.{length, get_or-eq_default}
 use borrow.Author.Tests.{lt-ltb}
 use Rattle.paper.specs.Outcome.{Outcome, gives, refuses, mapped}
-use Rattle.paper.specs.declared.refusal.Answer.{Answer}
-use Rattle.paper.specs.declared.refusal.Answer.TheVariants.{Done}
-use Rattle.paper.proofs.Refusals.{answered_one}
+use Rattle.std.specs.Prelude.{Result, Ok}
+use Rattle.paper.specs.Refusals.{outcome}
+use Rattle.paper.specs.declared.refusal.Refusal.{Refusal}
+use Rattle.paper.proofs.Refusals.{outcome_one}
 use Rattle.record.specs.Record.{reads}
 use Rattle.ring.specs.Ring.{head_of, IsRing, held, turn_at, first_turns, turns, store, stores, erased}
-use Rattle.ring.specs.Answers.{counted, is_all_read, counting, storing, reading, erasing}
+use Rattle.ring.specs.Answers.{is_all_read, counting, storing, reading, erasing}
 use Rattle.ring.specs.History.{last, Event, attempt, erasure, after, tried, kept}
 use Rattle.ring.specs.Promises.{AddGiven, EraseGiven}
 use Rattle.ring.specs.Calls.{Stored, Led, Proper, Start, ReadsAs}
 use Rattle.ring.specs.inner.Checks.{ringing}
-use Rattle.ring.specs.declared.answer.Held.TheVariants.{Turns}
 use Rattle.ring.proofs.Slots.{less_or_not}
 use Rattle.ring.proofs.Turns.{length-turns, get_or-turns, ring_erased, turns_erased}
 use Rattle.ring.proofs.Answered.{
@@ -41,7 +41,6 @@ use Rattle.ring.proofs.Answered.{
   reading_ok,
 }
 use Rattle.ring.proofs.AllRead.{all_turn, all_last, all_more}
-use Rattle.ring.proofs.Determined.{counted_one}
 use Rattle.ring.proofs.Histories.{ring_stores, turns_stores, ring_after, turns_after, all_kept}
 
 -- ---- where a history may start
@@ -79,8 +78,8 @@ module _ (S : ℕ) (mem : List ℕ) (s : Start S mem) where
   reads_turns =
       record {
         count = λ r p.
-            counted_one r (Turns (length (turns S mem)))
-            (p.answer ∙ unfold counting counted in (ring_ok S mem _ s.ring.size s.ring.head ∙ ap gives (sym (length-turns S mem))));
+            outcome_one r (Ok (length (turns S mem)))
+            (p.answer ∙ unfold counting outcome in (ring_ok S mem _ s.ring.size s.ring.head ∙ ap gives (sym (length-turns S mem))));
         each = λ i part p.
             p.answer
             ∙ ⊎_elim
@@ -90,7 +89,7 @@ module _ (S : ℕ) (mem : List ℕ) (s : Start S mem) where
             ∙ sym (get_or-eq_default (turns S mem) [] (rw (length-turns S mem) g)))
             (less_or_not i (held S (head_of mem)));
         there = λ i r l p.
-            answered_one r Done
+            outcome_one r (Ok tt)
             (p.answer ∙ ap (mapped (λ _. tt)) (read_there i (rw (length-turns S mem) at l)) ∙ unfold mapped in (sym (done_is refl)));
         all_read = s.all_read;
       }
@@ -108,7 +107,7 @@ stored_is S was rec (suc n) is v r b c =
     (storing_ok S c.0 rec n (ring_ok S c.0 (gives tt) ring.size ring.head) r (omega arith))
     ∙ ap (λ (m : List ℕ). store S m rec n) mid
 
-erased_is : (S : ℕ) (was is : List ℕ) (r : Answer) → IsRing S was → EraseGiven S was r is → is ≡ erased was
+erased_is : (S : ℕ) (was is : List ℕ) (r : Result (Unit {0}) Refusal) → IsRing S was → EraseGiven S was r is → is ≡ erased was
 erased_is S was is r v c = c.memory ∙ given_yes (λ _. erased was) was (unfold erasing in (size_ok S was (gives tt) v.size))
 
 pub led_is : (S : ℕ) (was : List ℕ) (l : List Event) (is : List ℕ) → IsRing S was → Proper l → Led S was l is → is ≡ after S was l
@@ -164,7 +163,7 @@ stored_none S was rec m (suc n) is e b c =
     ∙ given_no {m = m} (λ _. store S c.0 rec n) c.0 (rw mid (storing_all S was rec n (omega arith) e))
     ∙ mid
 
-pub add_is_stores : (S : ℕ) (was rec is js : List ℕ) (r : Answer) → 2 ≤ S → S ≤ 128 → Stored S was rec 755 is → AddGiven S was rec r js → is ≡ js
+pub add_is_stores : (S : ℕ) (was rec is js : List ℕ) (r : Result (Unit {0}) Refusal) → 2 ≤ S → S ≤ 128 → Stored S was rec 755 is → AddGiven S was rec r js → is ≡ js
 add_is_stores S was rec is js r two byte c d = go (storing S was rec 0) refl
   where
     go : (o : Outcome (Unit {0})) → storing S was rec 0 ≡ o → is ≡ js
@@ -174,7 +173,7 @@ add_is_stores S was rec is js r two byte c d = go (storing S was rec 0) refl
     go (refuses m) e = stored_none S was rec m 755 is e (omega arith) c ∙ sym (d.memory ∙ given_no (λ _. stores S was rec 755) was e)
 
 -- and so a whole record is the newest turn after `add`
-pub add_keeps : (S : ℕ) (was rec is : List ℕ) (r : Answer) → Start S was → reads rec ≡ true → AddGiven S was rec r is
+pub add_keeps : (S : ℕ) (was rec is : List ℕ) (r : Result (Unit {0}) Refusal) → Start S was → reads rec ≡ true → AddGiven S was rec r is
     → ReadsAs S is (last (S - 1) (turns S was ++ rec ∷ []))
 add_keeps S was rec is r s e d =
     let v = s.ring in

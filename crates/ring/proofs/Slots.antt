@@ -4,7 +4,7 @@ use Prim.Native.Nat.{ℕ, ◌+◌, ◌-◌, ◌*◌, ◌%◌, ◌≤◌, ◌<◌
 use mathlib.Core.Path.{◌≡◌, refl, sym, ap, ◌∙◌}
 use mathlib.Core.Logic.{◌≢◌, ◌⊎◌, inl, inr, ⊎_elim}
 use mathlib.Core.Bool.{Bool, true, false}
-use native.Mathlib.Nat.{mod-eq_of_lt, mod-eq-sub-mod, mod-lt, mod_self, add-mod_left}
+use native.Mathlib.Nat.{mod-eq_of_lt, mod-eq-sub-mod, mod-lt, add-mod_left}
 use native.Mathlib.Omega.{arith}
 use lib.Dec.{ltb}
 use borrow.Author.Tests.{lt-ltb, le-ltb, ltb-true, ltb-false}
@@ -61,25 +61,6 @@ module _ (S : ℕ) (h : ℕ) (two : 2 ≤ S) (ok : h < 2 * S) where
   pub next_ok : next_head S h < 2 * S
   unfolding next_head
   next_ok = ⊎_elim (λ l. simp (lt-ltb (h + 1) (2 * S) l) l) (λ g. simp (le-ltb (h + 1) (2 * S) g) (omega arith)) (less_or_not (h + 1) (2 * S))
-
--- the next head by a step, and by a remainder once the ring has gone round
-pub next_step : (S h : ℕ) → h < S → h + 1 ≡ next_head S h
-unfolding next_head
-next_step S h l = simp (lt-ltb (h + 1) (2 * S) (omega arith))
-
-pub next_round : (S h : ℕ) → S ≤ h → h < 2 * S → S + (h + 1) % S ≡ next_head S h
-unfolding next_head
-next_round S h g l =
-    ⊎_elim
-    (λ a.
-    let low : h + 1 - S < S = omega arith in
-    let down : (h + 1) % S ≡ (h + 1 - S) % S = mod-eq-sub-mod (omega arith) in
-    let is : (h + 1) % S ≡ h + 1 - S = down ∙ mod-eq_of_lt low in
-    simp (lt-ltb (h + 1) (2 * S) a) (omega arith))
-    (λ a.
-    let e : h + 1 ≡ S + S = omega arith in
-    simp (le-ltb (h + 1) (2 * S) a) (ap (λ (x : ℕ). S + x % S) e ∙ rw (add-mod_left S S, mod_self S) (omega arith)))
-    (less_or_not (h + 1) (2 * S))
 
 -- how many turns the next record drives out: 1 from a full ring, else 0
 abbrev pub gone : ℕ → ℕ → ℕ

@@ -47,7 +47,11 @@ unfolding stores
 stores_size S mem rec zero = refl
 stores_size S mem rec (suc n) = store_size S (stores S mem rec n) rec n ∙ stores_size S mem rec n
 
--- one store more
+-- no store, and one more
+pub stores_none : (S : ℕ) (mem rec : List ℕ) → stores S mem rec 0 ≡ mem
+unfolding stores
+stores_none S mem rec = refl
+
 pub stores_more : (S : ℕ) (mem rec : List ℕ) (n : ℕ) (was is : List ℕ) → was ≡ stores S mem rec n → is ≡ store S was rec n → is ≡ stores S mem rec (n + 1)
 unfolding stores
 stores_more S mem rec n was is p q = q ∙ rw (p, add-one)

@@ -10,7 +10,8 @@ use lib.ListN.{length, get_or, length-set}
 use lib.Seq.{get_or-set_other}
 use borrow.Author.Tests.{lt-ltb, le-ltb, lt-leb}
 use Rattle.paper.specs.Outcome.{Outcome, gives, refuses}
-use Rattle.paper.specs.declared.refusal.Answer.{Answer}
+use Rattle.std.specs.Prelude.{Result}
+use Rattle.paper.specs.declared.refusal.Refusal.{Refusal}
 use Rattle.ring.specs.Ring.{slot_start, head_of, IsRing, held, slot_of, next_slot, touched, put, store}
 use Rattle.ring.specs.Answers.{storing}
 use Rattle.ring.specs.Tails.{in_tail}
@@ -19,7 +20,7 @@ use Rattle.ring.proofs.Slots.{less_or_not, slot_free}
 use Rattle.ring.proofs.Answered.{given_yes, given_no}
 
 -- a call of `store` changes no other byte, and no length, whatever it answers
-pub one_byte : (S : ℕ) (was rec : List ℕ) (k : ℕ) (r : Answer) (is : List ℕ) → StoreGiven S was rec k r is
+pub one_byte : (S : ℕ) (was rec : List ℕ) (k : ℕ) (r : Result (Unit {0}) Refusal) (is : List ℕ) → StoreGiven S was rec k r is
     → (length is ≡ length was) × ((j : ℕ) → j ≢ touched S was k → get_or is j 0 ≡ get_or was j 0)
 one_byte S was rec k r is p = go (storing S was rec k) refl
   where

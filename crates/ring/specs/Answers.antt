@@ -1,17 +1,10 @@
 -- What the ring gives or refuses, for every memory, record and number: the order of checks of each of the paper's entries.
 use Rattle.std.specs.Prelude.{ℕ, ◌+◌, ◌*◌, Bool, true, not, ◌&&◌, List, [], ◌∷◌, leb, eqb, length}
-use Rattle.paper.specs.Outcome.{Outcome, gives, refuses, refuse_if}
+use Rattle.paper.specs.Outcome.{Outcome, gives, refuse_if}
 use Rattle.paper.specs.Refusals.{number_of}
 use Rattle.paper.specs.declared.refusal.Refusal.TheVariants.{NotARecord, NotARing, HeadOver, NoSuchNumber}
 use Rattle.record.specs.Record.{reads}
 use Rattle.ring.specs.Ring.{head_of, held, turn_at, turns}
-use Rattle.ring.specs.declared.answer.Held.{Held}
-use Rattle.ring.specs.declared.answer.Held.TheVariants.{Turns, Refused}
-
--- a count of turns held, or a refusal's number
-unfoldable pub counted : Held → Outcome ℕ
-counted (Turns n) = gives n
-counted (Refused r) = refuses (number_of r)
 
 -- "10: ring memory is not 49,153 bytes"
 unfoldable pub sized : {A : Type 0} → ℕ → List ℕ → Outcome A → Outcome A

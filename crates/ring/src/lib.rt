@@ -1,8 +1,7 @@
 // The ring of turn records in a memory that the caller lends: one head byte and 64 slots of 768 bytes.
 #![tactic(auto)]
 
-pub mod answer;
-mod check;
+mod memory;
 mod place;
 mod reading;
 mod storing;

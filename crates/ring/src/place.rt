@@ -11,19 +11,21 @@ pub const MEMORY: usize = 1 + 768 * SLOTS;
 // The most turns that a ring holds: one slot is always free.
 const MOST: usize = SLOTS - 1;
 
-// The first head of a ring that has gone round, and the first number that is no head.
+// The first head of a ring that has gone round, and the first number that is no head. A constant's value has no call of `try_from`.
 const ROUND: u8 = SLOTS as u8;
 
 pub const HEADS: u8 = (2 * SLOTS) as u8;
 
 // How many turns a ring with head h holds.
+#[tactic(auto, unfolding(crate::specs::Ring::held))]
 pub(crate) fn held_by(h: u8) -> usize
     ensures { result ≡ held slots h }
 {
-    if h < ROUND { h as usize } else { MOST }
+    usize::from(h).min(MOST)
 }
 
 // The slot of turn i.
+#[tactic(auto, using(crate::proofs::Slots::held_min), unfolding(crate::specs::Ring::slot_of))]
 pub(crate) fn slot_of(h: u8, i: usize) -> usize
     requires h_bound { h < 2 * slots }
     requires i_bound { i < held slots h }
@@ -32,7 +34,7 @@ pub(crate) fn slot_of(h: u8, i: usize) -> usize
     if h < ROUND {
         i
     } else {
-        (h as usize - MOST + i) % SLOTS
+        (usize::from(h) - MOST + i) % SLOTS
     }
 }
 
@@ -40,10 +42,11 @@ pub(crate) fn slot_of(h: u8, i: usize) -> usize
 pub(crate) fn next_slot(h: u8) -> usize
     ensures { result ≡ next_slot slots h }
 {
-    h as usize % SLOTS
+    usize::from(h) % SLOTS
 }
 
 // The head once that slot is full.
+#[tactic(auto, unfolding(crate::specs::Ring::next_head))]
 pub(crate) fn next_head(h: u8) -> u8
     requires { h < 2 * slots }
     ensures { result ≡ next_head slots h }

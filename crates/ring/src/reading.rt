@@ -1,94 +1,73 @@
 // Reading the ring: how many turns it holds, one of them as a part of the caller's memory, and whether all read.
-ghost use Rattle.std.specs.Prelude.{◌≡◌, ◌+◌, ◌≤◌, ◌<◌, length};
-ghost use Rattle.ring.specs.Ring.{slots, IsRing, head_of, held as held_by, slot_start, slot_of, turn_at};
+ghost use Rattle.std.specs.Prelude.{◌≡◌, MatchResult};
+ghost use Rattle.paper.specs.Outcome.{gives, refuses};
+ghost use Rattle.paper.specs.Refusals.{number_of};
+ghost use Rattle.ring.specs.Ring.{slots, head_of, slot_start, slot_of};
+ghost use Rattle.ring.specs.Answers.{reading};
 ghost use Rattle.ring.specs.Promises.{HeldGiven, TurnGiven, TurnStartGiven, TurnRefusalGiven, AllReadGiven};
 
-use crate::answer::Held;
-use crate::check::{is_ring, may_ask};
-use crate::place::{held_by, slot_of, slot_start};
-use paper::refusal::{Answer, Refusal};
+use crate::memory::{Turn, Turns};
+use paper::refusal::Refusal;
+use record::read::check;
 
 // How many turns are held. (10, 11)
-pub fn held(mem: &[u8]) -> Held
+#[tactic(auto, using(crate::proofs::Promised::held_refused, crate::proofs::Promised::held_counted))]
+pub fn held(mem: &[u8]) -> Result<usize, Refusal>
     ensures { HeldGiven slots mem.now result }
 {
-    let a = is_ring(mem);
-    match a {
-        Answer::Refused(r) => Held::Refused(r),
-        Answer::Done => Held::Turns(held_by(mem[0])),
+    Ok(Turns::of(mem)?.count())
+}
+
+// Turn i, counted from the oldest. (10, 11, 12, 9)
+#[tactic(auto, using(crate::proofs::Promised::find_refused, crate::proofs::Promised::find_number, crate::proofs::Promised::find_record, crate::proofs::Promised::find_read))]
+fn find(mem: &[u8], i: usize) -> Result<Turn<'_>, Refusal>
+    ensures { MatchResult result (λ t. (reading slots mem.now i ≡ gives t.bytes.now) × (t.start ≡ slot_start (slot_of slots (head_of mem.now) i))) (λ r. reading slots mem.now i ≡ refuses (number_of r)) }
+{
+    let turns = Turns::of(mem)?;
+    if i >= turns.count() {
+        return Err(Refusal::NoSuchNumber);
     }
+    let turn = turns.turn(i);
+    check(turn.bytes)?;
+    Ok(turn)
 }
 
-// Where turn i begins.
-fn start_of(mem: &[u8], i: usize) -> usize
-    requires ring { IsRing slots mem.now }
-    requires i_bound { i < held_by slots (head_of mem.now) }
-    ensures { (result ≡ slot_start (slot_of slots (head_of mem.now) i)) × (result + 754 ≤ length mem.now) }
-{
-    slot_start(slot_of(mem[0], i))
-}
-
-// The 754 bytes where turn i stands.
-fn part(mem: &[u8], i: usize) -> &[u8]
-    requires ring { IsRing slots mem.now }
-    requires i_bound { i < held_by slots (head_of mem.now) }
-    ensures { result.now ≡ turn_at slots mem.now i }
-{
-    let start = start_of(mem, i);
-    let end = start + 754;
-    &mem[start..end]
-}
-
-// Turn i, counted from the oldest, as a part of the memory, and the empty part where it is refused. (10, 11, 12, 9)
+// Turn i as a part of the memory; its refusal is the empty part, which is the scope paper's form. (10, 11, 12, 9)
+#[tactic(auto, using(crate::proofs::Promised::turn_given, crate::proofs::Promised::turn_refused))]
 pub fn turn(mem: &[u8], i: usize) -> &[u8]
     ensures { TurnGiven slots mem.now i result.now }
 {
-    if let Answer::Refused(_) = turn_refusal(mem, i) {
-        return &mem[0..0];
+    match find(mem, i) {
+        Ok(turn) => turn.bytes,
+        Err(_) => &mem[..0],
     }
-    part(mem, i)
 }
 
-// Where turn i begins in the memory, and 0 where it is refused. (10, 11, 12, 9)
-pub fn turn_start(mem: &[u8], i: usize) -> usize
+// Where turn i begins in the memory. (10, 11, 12, 9)
+#[tactic(auto, using(crate::proofs::Promised::start_given, crate::proofs::Promised::start_refused))]
+pub fn turn_start(mem: &[u8], i: usize) -> Result<usize, Refusal>
     ensures { TurnStartGiven slots mem.now i result }
 {
-    if let Answer::Refused(_) = turn_refusal(mem, i) {
-        return 0;
-    }
-    start_of(mem, i)
+    Ok(find(mem, i)?.start)
 }
 
 // Why turn i is refused, or that it is there and reads. (10, 11, 12, 9)
-pub fn turn_refusal(mem: &[u8], i: usize) -> Answer
+#[tactic(auto, using(crate::proofs::Promised::refusal_done, crate::proofs::Promised::refusal_given))]
+pub fn turn_refusal(mem: &[u8], i: usize) -> Result<(), Refusal>
     ensures { TurnRefusalGiven slots mem.now i result }
 {
-    let a = may_ask(mem, i);
-    if let Answer::Refused(_) = a {
-        return a;
-    }
-    if record::read::reads(part(mem, i)) {
-        Answer::Done
-    } else {
-        Answer::Refused(Refusal::NotARecord)
-    }
+    find(mem, i)?;
+    Ok(())
 }
 
 // Do all the turns that are held read? (10, 11, 9)
-pub fn all_read(mem: &[u8]) -> Answer
+#[tactic(auto, using(crate::proofs::Promised::all_refused, crate::proofs::Promised::all_not, crate::proofs::Promised::all_do, crate::proofs::Promised::none_read, crate::proofs::Promised::first_read))]
+pub fn all_read(mem: &[u8]) -> Result<(), Refusal>
     ensures { AllReadGiven slots mem.now result }
 {
-    let a = is_ring(mem);
-    if let Answer::Refused(_) = a {
-        return a;
+    let turns = Turns::of(mem)?;
+    for i in 0..turns.count() {
+        check(turns.turn(i).bytes)?;
     }
-    let n = held_by(mem[0]);
-    let mut i: usize = 0;
-    while i < n {
-        if !record::read::reads(part(mem, i)) {
-            return Answer::Refused(Refusal::NotARecord);
-        }
-        i += 1;
-    }
-    Answer::Done
+    Ok(())
 }
