@@ -10,6 +10,7 @@ use lib.Bits.{bit_xor}
 use lib.Dec.{ltb}
 use lib.ListN.{length, take, drop, set, replicate, length-append, length-set, take-append-drop}
 use lib.Seq.{length-take-le, take-suc-set, drop-set-lt, append_snoc}
+use Rattle.std.proofs.lemmas.List.{nil_from_length}
 use borrow.Author.Tests.{le-ltb, lt-ltb, ltb-true, ltb-false}
 use Rattle.paper.specs.Outcome.{Outcome, gives}
 use Rattle.paper.specs.Refusals.{number_of}
@@ -108,15 +109,12 @@ module _ (code n begun : ℕ) where
       ∙ more_fed q qs mem k t h l
 
 -- what a request that can be written looks like
-nil_of : (xs : List ℕ) → length xs ≤ 0 → xs ≡ []
-nil_of [] h = refl
-nil_of (x ∷ xs) h = absurd (omega arith)
-
 short_of : (code : ℕ) (payload bytes : List ℕ) → code < 0x80 → request_of code payload ≡ gives bytes → (payload ≡ []) × (start_byte ∷ code ∷ [] ≡ bytes)
 unfolding request_of
 short_of code payload bytes h e =
     let g = refuse_not (ltb 0 (length payload)) (number_of CodeNotPermitted) (gives (start_byte ∷ code ∷ [])) (rw (lt-ltb code 0x80 h) at e) in
-    (nil_of payload (ltb-false 0 (length payload) g.0), gives_one g.1)
+    let none = ltb-false 0 (length payload) g.0 in
+    (nil_from_length payload (omega arith), gives_one g.1)
 
 long_of : (code : ℕ) (payload bytes : List ℕ) → 0x80 ≤ code → request_of code payload ≡ gives bytes
     → (length payload ≤ 255) × (with_sum (start_byte ∷ code ∷ length payload ∷ payload) ≡ bytes)

@@ -7,8 +7,9 @@ use native.Mathlib.Omega.{arith}
 use native.Mathlib.Numerals.{add-one}
 use lib.Bits.{bit_xor}
 use lib.Dec.{ltb, eqb}
-use lib.ListN.{length, get_or, take, drop, set, length-append, take-append-drop}
+use lib.ListN.{length, get_or, take, drop, set, take-append-drop}
 use lib.Seq.{take-take, take_all, length-take-le, set_split, append_snoc}
+use Rattle.std.proofs.lemmas.List.{length_push}
 use borrow.Author.Tests.{lt-ltb, le-ltb, eq-eqb, ne_eqb}
 use Rattle.paper.specs.Outcome.{gives, refuses, if_given, mapped}
 use Rattle.paper.specs.Refusals.{number_of}
@@ -52,10 +53,6 @@ pub begin_yes : (time b : ℕ) → b ≡ start_byte → begin time b ≡ started
 unfolding begin
 begin_yes time b e = rw (eq-eqb b start_byte e)
 
-pub begin_no : (time b : ℕ) → (b ≡ start_byte → ⊥) → begin time b ≡ empty
-unfolding begin
-begin_no time b n = rw (ne_eqb b start_byte n)
-
 module _ (p : Part) (time b : ℕ) where
   pub taken_none : length p.bytes ≡ 0 → taking p time b ≡ goes (begin time b)
   unfolding taking
@@ -83,8 +80,6 @@ module _ (p : Part) (b : ℕ) where
   unfolding joining
   joins_packet e f = rw (e, f)
 
--- ---- the promise
-
 -- the time of a packet is its collector's
 pub late_of : (st : Stage) (begun time : ℕ) (mem : List ℕ) → late (part_of st begun mem) time ≡ ltb packet_time (time - begun)
 unfolding late part_of started
@@ -108,7 +103,7 @@ size_joins begun code b was = joins_more (part_of (Coded code) begun was) b (ne_
 
 -- the payload so far with one byte more
 one_more : (count b : ℕ) (was : List ℕ) → count ≤ length was → length (take count was ++ b ∷ []) ≡ count + 1
-one_more count b was h = length-append (take count was) (b ∷ []) ∙ ap (λ (k : ℕ). k + 1) (length-take-le count was h)
+one_more count b was h = length_push (take count was) b ∙ ap (λ (k : ℕ). k + 1) (length-take-le count was h)
 
 -- the payload
 module _ (code size count sum begun b : ℕ) (was : List ℕ) where
@@ -155,9 +150,6 @@ module _ (code size count sum begun b : ℕ) (was : List ℕ) (h : size ≤ coun
   last_yes e =
       joins_packet (part_of (Sized code size count sum) begun was) b last_whole (last_wrong ∙ ap not (eq-eqb b sum e)) ∙ (unfold part_of in (ap (packet code) all_there))
 
-  last_no : (b ≡ sum → ⊥) → joining (part_of (Sized code size count sum) begun was) b ≡ goes empty
-  last_no n = joins_wrong (part_of (Sized code size count sum) begun was) b last_whole (last_wrong ∙ ap not (ne_eqb b sum n))
-
 -- a whole packet's payload is in the memory already
 pub kept_memory : (code size : ℕ) (was : List ℕ) → size ≤ length was → was ≡ over was (payload_in (packet code (take size was)))
 unfolding payload_in over
@@ -174,7 +166,7 @@ pub taken_three : (s : Collector) (time b : ℕ) (was : List ℕ) → s.last ≤
 unfolding mapped if_given answer_to collector_after memory_after
 taken_three s time b was fresh t e = let g = taken_gives s time b was fresh t e in (rw g, rw g, rw g)
 
--- ---- the stages
+-- ---- what the functions stand on
 
 -- a byte of the payload
 pub payload_stepped : {st : Stage} {k : ℕ} (code size count sum b : ℕ) (was : List ℕ) → st ≡ Sized code size count sum → k ≡ count → count < size → size ≤ length was

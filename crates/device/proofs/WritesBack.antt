@@ -1,5 +1,5 @@
 -- What is collected writes back to the very bytes that were fed last: `collected_writes_back`.
-use Prim.Native.Nat.{ℕ, zero, suc, ◌+◌, ◌<◌, ◌≤◌}
+use Prim.Native.Nat.{ℕ, suc, ◌+◌, ◌<◌, ◌≤◌}
 use mathlib.Core.Path.{◌≡◌, refl, sym, ap, ◌∙◌}
 use mathlib.Core.Bool.{Bool, true, false, cond, ◌||◌}
 use mathlib.Core.List.{List, [], ◌∷◌, ◌++◌, append-nil, append_assoc}
@@ -7,8 +7,9 @@ use Rattle.std.specs.Prelude.{Some}
 use native.Mathlib.Omega.{arith}
 use lib.Bits.{bit_xor}
 use lib.Dec.{ltb, eqb}
-use lib.ListN.{length, take, drop, length-append}
+use lib.ListN.{length, take, drop}
 use lib.Seq.{take-take, take-append_seam, take_at, append_snoc}
+use Rattle.std.proofs.lemmas.List.{length_push}
 use borrow.Author.Tests.{lt-ltb, ne_eqb, ltb-true, ltb-false, eqb-true, eqb-false}
 use Rattle.paper.specs.Outcome.{gives}
 use Rattle.paper.specs.Sum.{xor_from, sum_of}
@@ -68,8 +69,7 @@ Good fed (packet code payload) = EndsWith fed code payload × (length payload �
 
 -- numbers that differ
 positive : {n : ℕ} → (n ≡ 0 → ⊥) → 0 < n
-positive {n = zero} h = absurd (h refl)
-positive {n = suc n} h = omega arith
+positive {n = n} h = omega arith
 
 -- nothing begun follows whatever was fed
 none_follows : (fed : List ℕ) (begun : ℕ) → Follows fed (record { bytes = []; sum = 0; begun = begun })
@@ -85,9 +85,6 @@ begin_good fed time b = go (eqb b start_byte) refl
     go false e = none_follows (fed ++ b ∷ []) 0
 
 -- one more byte of the packet
-grown : (before xs : List ℕ) (b : ℕ) → before ++ xs ++ b ∷ [] ≡ before ++ (xs ++ b ∷ [])
-grown before xs b = append_assoc before xs (b ∷ [])
-
 more_good : (fed : List ℕ) (p : Part) (b : ℕ) → Follows fed p → Opens (p.bytes ++ b ∷ [])
     → Follows (fed ++ b ∷ []) (record { bytes = p.bytes ++ b ∷ []; sum = bit_xor p.sum b; begun = p.begun })
 unfolding sum_of xor_from
@@ -95,7 +92,7 @@ more_good fed p b f o = record {
   opens = o;
   right = ap (λ (x : ℕ). bit_xor x b) f.right ∙ sym (xor_from-append 0 p.bytes (b ∷ []));
   before = f.before;
-  split = ap (λ (xs : List ℕ). xs ++ b ∷ []) f.split ∙ grown f.before p.bytes b;
+  split = ap (λ (xs : List ℕ). xs ++ b ∷ []) f.split ∙ append_assoc f.before p.bytes (b ∷ []);
 }
 
 ends : (fed : List ℕ) (p : Part) (b code : ℕ) (payload : List ℕ) → Follows fed p → request_of code payload ≡ gives (p.bytes ++ b ∷ [])
@@ -103,7 +100,7 @@ ends : (fed : List ℕ) (p : Part) (b code : ℕ) (payload : List ℕ) → Follo
 ends fed p b code payload f e = record {
   before = f.before;
   request = p.bytes ++ b ∷ [];
-  split = ap (λ (xs : List ℕ). xs ++ b ∷ []) f.split ∙ grown f.before p.bytes b;
+  split = ap (λ (xs : List ℕ). xs ++ b ∷ []) f.split ∙ append_assoc f.before p.bytes (b ∷ []);
   writes = e;
 }
 
@@ -139,9 +136,6 @@ size_good fed a code acc begun b f l =
 
 -- the payload and the checksum
 module _ (fed : List ℕ) (a code size : ℕ) (rest : List ℕ) (acc begun b : ℕ) (f : Follows fed (held (a ∷ code ∷ size ∷ rest) acc begun)) where
-  long : length (rest ++ b ∷ []) ≡ length rest + 1
-  long = length-append rest (b ∷ [])
-
   full : length rest ≡ size → b ≡ acc → request_of code rest ≡ gives (a ∷ code ∷ size ∷ (rest ++ b ∷ []))
   unfolding Opens held with_sum
   full n e =
@@ -160,7 +154,7 @@ module _ (fed : List ℕ) (a code size : ℕ) (rest : List ℕ) (acc begun b : �
           let z = eqb-true (length (rest ++ b ∷ [])) (size + 1) e in
           let o = f.opens in
           let m = o.3 in
-          let n : length rest ≡ size = omega (arith, long) in
+          let n : length rest ≡ size = omega (arith, length_push rest b) in
           good_same (fed ++ b ∷ []) (joins_packet (held (a ∷ code ∷ size ∷ rest) acc begun) b e (rw (w, lt-ltb 1 (length (a ∷ code ∷ size ∷ rest)) (omega arith))))
           (ends fed (held (a ∷ code ∷ size ∷ rest) acc begun) b code rest f (full n (eqb-true b acc w)), omega arith)
       go true e false w = good_same (fed ++ b ∷ []) (joins_wrong (held (a ∷ code ∷ size ∷ rest) acc begun) b e (rw (w, lt-ltb 1 (length (a ∷ code ∷ size ∷ rest)) (omega arith)))) (none_follows (fed ++ b ∷ []) 0)
@@ -168,7 +162,7 @@ module _ (fed : List ℕ) (a code size : ℕ) (rest : List ℕ) (acc begun b : �
           let o = f.opens in
           let m = o.2 in
           let ne : length (rest ++ b ∷ []) ≡ size + 1 → ⊥ = eqb-false (length (rest ++ b ∷ [])) (size + 1) e in
-          let lt : length (rest ++ b ∷ []) ≤ size = omega (arith, long) in
+          let lt : length (rest ++ b ∷ []) ≤ size = omega (arith, length_push rest b) in
           good_same (fed ++ b ∷ []) (joins_more (held (a ∷ code ∷ size ∷ rest) acc begun) b e)
           (more_good fed (held (a ∷ code ∷ size ∷ rest) acc begun) b f (o.0, o.1, lt, o.3))
 

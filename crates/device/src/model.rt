@@ -185,6 +185,7 @@ impl State {
     }
 }
 
+// Each reply has its own descriptor, size and writer: one function that takes all three would be longer than the two.
 fn send_info(info: Info, out: &mut [u8]) -> Result<usize, Refusal>
     ensures { Writes (behind_descriptor info_descriptor (bytes_of_info info)) out.old result out.new }
 {

@@ -16,7 +16,7 @@ use Rattle.paper.specs.Writing.{fitting, over, Writes}
 use Rattle.paper.specs.Promises.{placing, put_at, BytesPut}
 use Rattle.paper.specs.declared.refusal.Refusal.{Refusal}
 use Rattle.paper.specs.declared.refusal.Refusal.TheVariants.{OutputShort}
-use Rattle.paper.proofs.Outcome.{gives_one, gives_refuses, refuse_yes, refuse_no, mapped_given}
+use Rattle.paper.proofs.Outcome.{gives_one, gives_refuses, refuse_yes, refuse_no, given_as}
 use Rattle.paper.proofs.Placing.{put_more, put_front}
 
 pub fitting_yes : (xs : List ℕ) (room : ℕ) → length xs ≤ room → fitting room (gives xs) ≡ gives xs
@@ -145,7 +145,5 @@ written_front (gives xs) was is n w = go (ltb (length was) (length xs)) refl
 -- an answer made of the bytes written has their count
 pub written_count : {A : Type 0} {o : Outcome (List ℕ)} {was is : List ℕ} {a : A} (count : A → ℕ) (f : List ℕ → A) → ((xs : List ℕ) → count (f xs) ≡ length xs)
     → gives a ≡ mapped f (fitting (length was) o) → is ≡ if_given (fitting (length was) o) (over was) was → Writes o was (Ok (count a)) is
-unfolding outcome mapped
-written_count {o = o} {was = was} count f c e w =
-    let g = mapped_given f (fitting (length was) o) e in
-    record { answer = rw g.1.0 (ap gives (ap count g.1.1 ∙ c g.0)); output = w }
+unfolding outcome
+written_count {o = o} {was = was} count f c e w = record { answer = given_as f (fitting (length was) o) count length c e; output = w }

@@ -2,7 +2,7 @@
 -- From a fresh session on the rules are those over the list alone: `fresh_keeps` of proofs/Steps.antt.
 use Prim.Native.Nat.{ℕ, ◌-◌, ◌≤◌, ◌<◌}
 use mathlib.Core.Path.{◌≡◌, refl, sym, ap, ◌∙◌}
-use mathlib.Core.Bool.{Bool, true, false, ◌&&◌}
+use mathlib.Core.Bool.{Bool, true, false}
 use mathlib.Core.List.{List, [], ◌∷◌, ◌++◌}
 use native.Mathlib.Omega.{arith}
 use lib.Dec.{ltb, eqb}
@@ -13,6 +13,7 @@ use Rattle.std.specs.Prelude.{Result, Ok}
 use Rattle.paper.specs.Refusals.{outcome}
 use Rattle.paper.specs.declared.refusal.Refusal.{Refusal}
 use Rattle.paper.specs.Writing.{fitting, over}
+use Rattle.paper.proofs.Cases.{both_hold}
 use Rattle.paper.proofs.Outcome.{refuse_not, mapped_given}
 use Rattle.paper.proofs.Refusals.{outcome_one}
 use Rattle.paper.proofs.Writing.{fitting_yes}
@@ -38,11 +39,7 @@ fitted room (refuses m) e = e
 
 permitted_six : (k : Kind) (n : ℕ) → permitted k n ≡ true → of_the_six k ≡ true
 unfolding permitted
-permitted_six k n e = go (of_the_six k) e
-  where
-    go : (t : Bool) → (t && eqb n 0) ≡ true → t ≡ true
-    go true e = refl
-    go false e = e
+permitted_six k n e = (both_hold (of_the_six k) (eqb n 0) e).0
 
 sending_taken : (s : Session) (time code : ℕ) (payload : List ℕ) {xs : List ℕ} → sending s time code payload ≡ gives xs → Takes s (sent time (kind_of code))
 unfolding sending in_order Takes
@@ -98,7 +95,7 @@ unfolding of_the_six
 six_short code e = go (ltb code 0x80) refl
   where
     none_of_six : of_the_six Other ≡ true → code < 0x80
-    none_of_six z = let n : ◌≡◌ {A = ℕ} 0 1 = cc in omega arith
+    none_of_six z = absurd (cc)
 
     go : (t : Bool) → ltb code 0x80 ≡ t → code < 0x80
     go true h = ltb-true code 0x80 h

@@ -1,9 +1,10 @@
 -- A list of acts taken one after the other by a session: `rules_of_steps` and `steps_of_rules` say that they are allowed exactly where they keep the rules.
 use Prim.Native.Nat.{ℕ, ◌+◌, ◌≤◌}
-use mathlib.Core.Path.{◌≡◌, refl, sym, ap}
-use mathlib.Core.Bool.{Bool, true, false, not}
+use mathlib.Core.Path.{◌≡◌, refl, ap}
+use mathlib.Core.Bool.{true, false, not}
 use mathlib.Core.List.{List, [], ◌∷◌, ◌++◌}
 use native.Mathlib.Omega.{arith}
+use borrow.Author.Tests.{not-false}
 use Rattle.paper.specs.Words.{Each}
 use Rattle.wire.specs.declared.request.Kind.{Kind}
 use Rattle.session.specs.Session.{fresh, of_the_six, held_back, halts, ended, accepted}
@@ -34,16 +35,12 @@ TakesAll s (a ∷ acts) = Takes s a × TakesAll (step s a) acts
 -- ---- the parts
 
 pub nothing_reply : Nothing ≡ Reply → ⊥
-nothing_reply e = let z : ◌≡◌ {A = ℕ} 0 1 = cc in omega arith
+nothing_reply e = cc
 
 halting : (a : Awaited) (k : Kind) → held_back a k ≡ false → a ≡ Reply → halts k ≡ true
 unfolding held_back
 halting Nothing k h e = absurd (nothing_reply e)
-halting Reply k h e = go (halts k) h
-  where
-    go : (t : Bool) → not t ≡ false → t ≡ true
-    go true h = refl
-    go false h = sym h
+halting Reply k h e = not-false (halts k) h
 
 not_held : (a : Awaited) (k : Kind) → (a ≡ Reply → halts k ≡ true) → held_back a k ≡ false
 unfolding held_back
