@@ -1,7 +1,7 @@
 -- How a reply behind its descriptor is sent: `reply_sent`, `reply_refused`; and how long each reply is: `info_whole`, `health_whole`.
 use Prim.Native.Nat.{ℕ}
 use mathlib.Core.Path.{◌≡◌, refl, sym, ap, ◌∙◌}
-use mathlib.Core.List.{List, [], ◌++◌, append-nil}
+use mathlib.Core.List.{List, ◌++◌, append-nil}
 use native.Mathlib.Omega.{arith}
 use lib.ListN.{length, drop_of_length-le}
 use Rattle.std.specs.Prelude.{Result, Ok, Err}
@@ -11,16 +11,11 @@ use Rattle.paper.specs.Words.{bytes_of}
 use Rattle.paper.specs.Writing.{Writes, fitting, over}
 use Rattle.paper.specs.declared.refusal.Refusal.{Refusal}
 use Rattle.paper.proofs.Outcome.{gives_one, gives_refuses, refuse_not}
-use Rattle.paper.proofs.Writing.{writes_all, written_over, written_err}
+use Rattle.paper.proofs.Writing.{written_over, written_err}
 use Rattle.wire.specs.Reply.{bytes_of_info, bytes_of_health}
 use Rattle.wire.specs.declared.reply.Info.{Info}
 use Rattle.wire.specs.declared.reply.Health.{Health}
 use Rattle.device.specs.Model.{behind_descriptor}
-
--- no bytes are written
-pub wrote_nothing : (was : List ℕ) → Writes (gives []) was (Ok 0) was
-unfolding over
-wrote_nothing was = writes_all [] was was 0 (omega arith) refl refl
 
 -- a reply is written into as many bytes as it has, and then sent behind its descriptor
 pub reply_sent : (d was is : List ℕ) (o : Outcome (List ℕ)) {blank mid : List ℕ} {n : ℕ} {r : Result ℕ Refusal}
