@@ -1,62 +1,68 @@
 -- How each promise of the host is met from those of session, reader, gatherer and record.
 use Prim.Native.Nat.{ℕ}
-use mathlib.Core.Path.{◌≡◌, refl, sym, ap, ◌∙◌}
+use mathlib.Core.Path.{◌≡◌, refl, ap, ◌∙◌}
 use mathlib.Core.Bool.{Bool, true, false, not}
-use mathlib.Core.Option.{Option, none, some}
 use mathlib.Core.List.{List}
 use native.Mathlib.Omega.{arith}
 use lib.ListN.{length}
+use Rattle.std.specs.Prelude.{Result, Ok, Err}
 use Rattle.paper.specs.Outcome.{Outcome, gives, refuses, if_given, mapped}
-use Rattle.paper.specs.Refusals.{number_of, written}
+use Rattle.paper.specs.Refusals.{number_of, outcome}
 use Rattle.paper.specs.Writing.{Writes, fitting, over}
 use Rattle.paper.specs.declared.refusal.Refusal.{Refusal}
 use Rattle.paper.specs.declared.refusal.Refusal.TheVariants.{NotARecord}
-use Rattle.paper.specs.declared.refusal.Written.{Written}
-use Rattle.paper.specs.declared.refusal.Written.TheVariants as writing
-use Rattle.paper.proofs.Outcome.{gives_one, gives_refuses, refuses_one, refuse_yes, refuse_no, refused_other, given_one}
+use Rattle.paper.proofs.Outcome.{gives_one, gives_refuses, refuse_yes, refuse_no, refused_other, refused_as, given_as}
 use Rattle.paper.proofs.Writing.{fitting_yes}
 use Rattle.record.specs.Fields.{fields_of}
 use Rattle.record.specs.Record.{Turn, fields, count_fits, values_of, record_of}
 use Rattle.record.proofs.Writing.{record_length}
 use Rattle.wire.specs.declared.request.Request.{Request}
 use Rattle.wire.specs.declared.sample.Sample.{Sample}
-use Rattle.session.specs.Session.{sending}
 use Rattle.session.specs.Promises.{RequestSent}
 use Rattle.session.specs.declared.Session.{Session}
 use Rattle.session.specs.declared.Sent.{Sent}
+use Rattle.std.specs.Result.{result_unwrap_or}
 use Rattle.stream.specs.Promises.{Reads, Tells}
+use Rattle.stream.specs.Telling.{told_reader, after}
+use Rattle.stream.proofs.Telling.{tells_after}
+use Rattle.stream.specs.declared.Reader.{Reader}
 use Rattle.stream.specs.declared.Reading.{Reading}
-use Rattle.stream.specs.declared.Told.{Told as ReaderTold}
-use Rattle.turn.specs.Gather.{Told as GathererTold, gathered as gathered_by, told_by, row_of}
-use Rattle.turn.specs.Promises.{Fresh, gathering, GathersRow}
+use Rattle.turn.specs.Gather.{row_of, told_by, row_told_by}
+use Rattle.turn.specs.Promises.{Fresh, Gathers, gathering}
 use Rattle.turn.specs.declared.gather.Gatherer.{Gatherer}
-use Rattle.turn.specs.declared.gather.Gathered.TheVariants as answer
 use Rattle.turn.specs.declared.gather.RowGathered.{RowGathered}
-use Rattle.host.specs.Host.{asked, reading_of, gathered, record_for, ready, told_of}
+use Rattle.host.specs.Host.{asked, reading_of, gathered, ready, turned}
 use Rattle.host.specs.Promises.{Asks, Hears, Turns}
 use Rattle.host.specs.inner.Noted.{waited_at, is_info, kept_at}
 use Rattle.host.specs.declared.Host.{Host}
-use Rattle.host.specs.declared.Told.{Told}
-use Rattle.host.specs.declared.Told.TheVariants as told
 use Rattle.host.proofs.Noted.{noted_session, noted_serial}
 
 -- ---- a request
 
-module _ {h : Host} {time : ℕ} {q : Request} {payload was : List ℕ} {sent : Sent} {is : List ℕ} (p : RequestSent h.session time q payload was sent is) where
-  -- refused: all is as it was
-  pub asks_no : {a : Refusal} → sent.answer ≡ writing.Refused a → Asks h time q payload was (record { host = h; answer = sent.answer }) is
-  unfolding written
-  asks_no t = record { writes = p.writes; host = refused_other length _ _ _ (sym (ap written t) ∙ p.writes.answer) }
+-- the reader that is told, or the very reader where it refuses
+pub reader_told : {s : Reader} {q : Request} (r : Result Reader Refusal) → Tells s q r → result_unwrap_or r s ≡ told_reader s q
+unfolding after
+reader_told {s} r p = which r ∙ tells_after p
+  where
+    which : (r : Result Reader Refusal) → result_unwrap_or r s ≡ after s r
+    which (Ok t) = refl
+    which (Err q) = refl
 
-  -- sent: the reader and the gatherer are told
-  pub asks_yes : {n : ℕ} {t : ReaderTold} {g : Gatherer} → sent.answer ≡ writing.Bytes n → Tells h.reader q t → Fresh g
-      → Asks h time q payload was (record { host = record { session = sent.session; reader = t.reader; gatherer = g; serial = h.serial }; answer = sent.answer }) is
-  unfolding written asked
-  asks_yes {n} {t} {g} b v f =
-      let o = fitting (length was) (sending h.session time q.0 payload) in
-      let e = sym (ap written b) ∙ p.writes.answer in
-      let s = p.session ∙ sym (given_one length o _ h.session e) in
-      record { writes = p.writes; host = rw (s, v.reader, f.answer) (given_one length o (asked h time q) h e) }
+module _ {h : Host} {time : ℕ} {q : Request} {payload was is : List ℕ} where
+  -- what the session refuses
+  pub asks_no : {a : Refusal} → RequestSent h.session time q payload was (Err a) is → Asks h time q payload was (Err a) is
+  unfolding outcome
+  asks_no p = record { answer = refused_as _ _ _ p.answer; output = p.output }
+
+  -- what it sends: the reader and the gatherer are told
+  pub asks_yes : {sent : Sent} {t : Result Reader Refusal} {r : Reader} {g : Gatherer} → RequestSent h.session time q payload was (Ok sent) is → Tells h.reader q t → r ≡ result_unwrap_or t h.reader → Fresh g
+      → Asks h time q payload was (Ok (record { host = record { session = sent.session; reader = r; gatherer = g; serial = h.serial }; bytes = sent.bytes })) is
+  unfolding outcome asked
+  asks_yes {sent} {t} {r} {g} p v e f = record {
+    answer = given_as _ _ (λ (s : Sent). record { host = record { session = s.session; reader = r; gatherer = g; serial = h.serial }; bytes = s.bytes }) _
+        (λ xs. rw (e ∙ reader_told t v, f.answer)) p.answer;
+    output = p.output;
+  }
 
 -- ---- bytes
 
@@ -75,7 +81,7 @@ hears {h} p e f = record { reads = p; session = e ∙ noted_session p h.session;
 -- ---- a row
 
 -- a memory of 754 bytes has room for a record
-pub made_ready : (t : Turn) (was is : List ℕ) (w : Written) → length t.serial ≡ 16 → length t.cells ≡ 360 → length was ≡ 754 → Writes (record_of t) was w is
+pub made_ready : (t : Turn) (was is : List ℕ) (w : Result ℕ Refusal) → length t.serial ≡ 16 → length t.cells ≡ 360 → length was ≡ 754 → Writes (record_of t) was w is
     → is ≡ if_given (record_of t) (over was) was
 unfolding if_given record_of fitting
 made_ready t was is w s c l p = go (not (count_fits t.count)) refl
@@ -87,53 +93,43 @@ made_ready t was is w s c l p = go (not (count_fits t.count)) refl
         let f = fitting_yes (fields_of fields (values_of t)) (length was) (omega (arith, record_length t s c)) in
         rw o (rw (o, f) at p.output)
 
-module _ {h : Host} {row : List ℕ} (number : ℕ) {f c : List ℕ} (rec : List ℕ) {g : RowGathered} {f' c' : List ℕ} (p : GathersRow (row_of row) h.gatherer f c g f' c') where
+module _ {h : Host} {row : List ℕ} (number : ℕ) {f c : List ℕ} (rec : List ℕ) {f' c' : List ℕ} where
   -- refused: all is as it was
-  pub turns_no : {q : Refusal} → g.gathered ≡ answer.Refused q → Turns h row number f c rec (record { host = h; words = g.words; answer = told.Refused q }) f' c' rec
-  unfolding gathered_by mapped if_given told_of
-  turns_no {q} e = go (row_of row) refl p.gathers.answer
-    where
-      go : (o : Outcome (List Sample)) → row_of row ≡ o → gathered_by g.gathered ≡ mapped (λ (ms : List Sample). told_by (gathering h.gatherer f c ms)) o
-          → Turns h row number f c rec (record { host = h; words = g.words; answer = told.Refused q }) f' c' rec
-      go (gives ms) i v = absurd (gives_refuses (sym (sym (ap gathered_by e) ∙ v)))
-      go (refuses n) i v = record {
-        answer = rw i (ap refuses (refuses_one (sym (ap gathered_by e) ∙ v)));
-        host = rw i;
-        words = p.words;
-        filled = p.gathers.filled;
-        shown = p.gathers.shown;
-        ready = rw i;
-      }
+  pub turns_no : {q : Refusal} → Gathers row_told_by (row_of row) h.gatherer f c (Err q) f' c' → Turns h row number f c rec (Err q) f' c' rec
+  unfolding outcome
+  turns_no p = record {
+    answer = refused_as _ _ _ p.answer;
+    filled = p.filled;
+    shown = p.shown;
+    ready = refused_other (λ (ms : List Sample). ms) _ _ _ (refused_as _ (row_of row) (λ (ms : List Sample). ms) p.answer);
+  }
 
-  -- a turn closed or none did, and what the record then is
-  pub turns_yes : (next : Gatherer) (t : Option ℕ) (a : Told) (rec' : List ℕ) {host : Host} → gathered_by g.gathered ≡ gives (record { gatherer = next; turn = t }) → told_of a ≡ gives t
-      → rec' ≡ ready h number rec t c' → host ≡ record { session = h.session; reader = h.reader; gatherer = next; serial = h.serial }
-      → Turns h row number f c rec (record { host = host; words = g.words; answer = a }) f' c' rec'
-  unfolding mapped if_given told_by gathered
-  turns_yes next t a rec' {host} e x z y = go (row_of row) refl (sym e ∙ p.gathers.answer)
+  -- gathered: a turn closed or none did, and what the record then is
+  pub turns_yes : {g : RowGathered} {rec' : List ℕ} → Gathers row_told_by (row_of row) h.gatherer f c (Ok g) f' c' → rec' ≡ ready h number rec g.gathered.turn c'
+      → Turns h row number f c rec (Ok (record {
+        host = record { session = h.session; reader = h.reader; gatherer = g.gathered.gatherer; serial = h.serial };
+        words = g.words;
+        turn = g.gathered.turn;
+      })) f' c' rec'
+  unfolding outcome mapped if_given row_told_by told_by turned gathered
+  turns_yes {g} {rec'} p z = go (row_of row) refl p.answer
     where
-      go : (o : Outcome (List Sample)) → row_of row ≡ o → gives (record { gatherer = next; turn = t }) ≡ mapped (λ (ms : List Sample). told_by (gathering h.gatherer f c ms)) o
-          → Turns h row number f c rec (record { host = host; words = g.words; answer = a }) f' c' rec'
+      go : (o : Outcome (List Sample)) → row_of row ≡ o → gives g ≡ mapped (λ (ms : List Sample). row_told_by (gathering h.gatherer f c ms)) o
+          → Turns h row number f c rec (Ok (record {
+            host = record { session = h.session; reader = h.reader; gatherer = g.gathered.gatherer; serial = h.serial };
+            words = g.words;
+            turn = g.gathered.turn;
+          })) f' c' rec'
       go (refuses n) i v = absurd (gives_refuses v)
       go (gives ms) i v =
-          let w = gives_one v in
-          let turn : t ≡ (gathering h.gatherer f c ms).turn = ap (λ (x : GathererTold). x.turn) w in
+          let w : g ≡ row_told_by (gathering h.gatherer f c ms) = gives_one v in
           record {
-            answer = rw i (x ∙ ap gives turn);
-            host = rw i (y ∙ ap (λ (y : Gatherer). record { session = h.session; reader = h.reader; gatherer = y; serial = h.serial }) (ap (λ (x : GathererTold). x.gatherer) w));
-            words = p.words;
-            filled = p.gathers.filled;
-            shown = p.gathers.shown;
-            ready = rw i (z ∙ ap (λ (y : Option ℕ). ready h number rec y c') turn);
+            answer = rw i (ap (λ (x : RowGathered). gives (record {
+              host = record { session = h.session; reader = h.reader; gatherer = x.gathered.gatherer; serial = h.serial };
+              words = x.words;
+              turn = x.gathered.turn;
+            })) w);
+            filled = p.filled;
+            shown = p.shown;
+            ready = rw i (z ∙ ap (λ (x : RowGathered). ready h number rec x.gathered.turn c') w);
           }
-
-  pub turns_taken : {next : Gatherer} {host : Host} → g.gathered ≡ answer.Taken next → host ≡ record { session = h.session; reader = h.reader; gatherer = next; serial = h.serial }
-      → Turns h row number f c rec (record { host = host; words = g.words; answer = told.Taken }) f' c' rec
-  unfolding gathered_by told_of ready
-  turns_taken {next} e y = turns_yes next none told.Taken rec (ap gathered_by e) refl refl y
-
-  pub turns_closed : {next : Gatherer} {n : ℕ} {rec' : List ℕ} {host : Host} → g.gathered ≡ answer.Closed next n → rec' ≡ if_given (record_for h number n c') (over rec) rec
-      → host ≡ record { session = h.session; reader = h.reader; gatherer = next; serial = h.serial }
-      → Turns h row number f c rec (record { host = host; words = g.words; answer = told.Closed n }) f' c' rec'
-  unfolding gathered_by told_of ready
-  turns_closed {next} {n} {rec'} e z y = turns_yes next (some n) (told.Closed n) rec' (ap gathered_by e) refl z y

@@ -8,15 +8,16 @@ use borrow.Author.Tests.{eq-eqb, ne_eqb}
 use lib.ListN.{length, drop}
 use lib.Seq.{length-take-le}
 use Rattle.paper.specs.Outcome.{gives, if_given}
-use Rattle.paper.specs.Refusals.{number_of}
+use Rattle.std.specs.Prelude.{Ok, Err}
+use Rattle.paper.specs.Refusals.{number_of, outcome}
+use Rattle.paper.specs.declared.refusal.Refusal.{Refusal}
 use Rattle.paper.specs.declared.refusal.Refusal.TheVariants.{NotAReply}
-use Rattle.paper.proofs.Outcome.{refuse_yes, refuse_no}
+use Rattle.paper.proofs.Outcome.{gives_one, gives_refuses, refuse_yes, refuse_no}
 use Rattle.framing.specs.Calls.{Stop as Reason, all_taken, ended_by, no_room}
 use Rattle.framing.proofs.Stops.{quiet, Ended, call_ended}
-use Rattle.wire.specs.Reply.{info_of, info_in, blank}
+use Rattle.wire.specs.Reply.{info_of, info_in}
 use Rattle.wire.specs.Promises.{InfoIsRead}
 use Rattle.wire.specs.declared.reply.Info.{Info}
-use Rattle.wire.specs.declared.reply.InfoRead.{InfoRead}
 use Rattle.wire.specs.declared.sample.Sample.{Sample}
 use Rattle.session.specs.declared.Session.{Session}
 use Rattle.stream.specs.State.{meaning, twenty}
@@ -91,11 +92,14 @@ unfolding info_of
 info_is w e = refuse_no (number_of NotAReply) (gives (info_in w)) (ap not (eq-eqb (length w) 20 e))
 
 -- and their last sixteen its serial
-pub serial_from : (w : List ℕ) (r : InfoRead) → length w ≡ 20 → InfoIsRead w r → r.info.serial ≡ drop 4 w
-unfolding if_given info_in
-serial_from w r e p =
-    let i : if_given (info_of w) (λ i. i) blank ≡ info_in w = rw (info_is w e) in
-    ap (λ (i : Info). i.serial) (p.info ∙ i)
+pub serial_from : (w : List ℕ) (i : Info) → length w ≡ 20 → InfoIsRead w (Ok i) → i.serial ≡ drop 4 w
+unfolding outcome info_in
+serial_from w i e p = ap (λ (x : Info). x.serial) (gives_one (p.answer ∙ info_is w e))
+
+-- and they are not refused
+pub never_refused : (w : List ℕ) {q : Refusal} → length w ≡ 20 → InfoIsRead w (Err q) → ⊥
+unfolding outcome
+never_refused w e p = gives_refuses (sym (p.answer ∙ info_is w e))
 
 info_kept : (serial w : List ℕ) → length w ≡ 20 → kept serial (replied w) ≡ drop 4 (twenty w)
 unfolding kept if_given info_in twenty

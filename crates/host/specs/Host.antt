@@ -1,9 +1,7 @@
 -- The host: one value for session, reader and gatherer, and the serial for the records. What a request, a thing that the reader gives and a
 -- closed turn make of it.
-use Rattle.std.specs.Prelude.{ℕ, List, [], ◌∷◌, replicate}
-use Rattle.std.proofs.Math.Option.{Option, none, some}
-use Rattle.paper.specs.Outcome.{Outcome, gives, refuses, if_given}
-use Rattle.paper.specs.Refusals.{number_of}
+use Rattle.std.specs.Prelude.{ℕ, List, [], ◌∷◌, replicate, Option, Some, None}
+use Rattle.paper.specs.Outcome.{Outcome, if_given}
 use Rattle.paper.specs.Writing.{over}
 use Rattle.wire.specs.Request.{kind_of}
 use Rattle.wire.specs.Reply.{info_of}
@@ -19,8 +17,7 @@ use Rattle.turn.specs.Gather.{End}
 use Rattle.record.specs.Record.{record_of}
 use Rattle.host.specs.declared.Host.{Host}
 use Rattle.host.specs.declared.Heard.{Heard}
-use Rattle.host.specs.declared.Told.{Told}
-use Rattle.host.specs.declared.Told.TheVariants as told
+use Rattle.host.specs.declared.Turned.{Turned}
 
 -- fresh: session, reader and gatherer are, and no serial is known
 unfoldable pub fresh : Host
@@ -68,11 +65,9 @@ record_for h number n cells = record_of (record { number = number; count = n; se
 
 -- a closed turn becomes a record ready to be stored
 unfoldable pub ready : Host → ℕ → List ℕ → Option ℕ → List ℕ → List ℕ
-ready h number rec none cells = rec
-ready h number rec (some n) cells = if_given (record_for h number n cells) (over rec) rec
+ready h number rec None cells = rec
+ready h number rec (Some n) cells = if_given (record_for h number n cells) (over rec) rec
 
--- what the code's answer means: the count of the turn that closed, or none
-unfoldable pub told_of : Told → Outcome (Option ℕ)
-told_of told.Taken = gives none
-told_of (told.Closed n) = gives (some n)
-told_of (told.Refused q) = refuses (number_of q)
+-- what a row is answered: the host, the words taken, and the count of the turn that closed
+unfoldable pub turned : Host → End → Turned
+turned h e = record { host = gathered h e; words = e.words; turn = e.turn }

@@ -1,21 +1,19 @@
 // What the stop of a call does to the session and to the serial.
 ghost use Rattle.std.specs.Prelude.{◌≡◌};
-ghost use Rattle.host.specs.inner.Noted.{waited_at, reads_info, is_info, kept_at};
+ghost use Rattle.host.specs.inner.Noted.{waited_at, is_info, kept_at};
 
 use session::Session;
 use stream::{Phase, Stop};
 use wire::reply::Info;
 
 // The session behind a stop.
+#[tactic(auto, unfolding(crate::specs::inner::Noted::waited_at))]
 pub(crate) fn waited(session: Session, stop: Stop) -> Session
     ensures { result ≡ waited_at stop session }
 {
     match stop {
-        Stop::AllTaken => session,
-        Stop::NoRoom => session,
-        Stop::Descriptor => session,
-        Stop::Reply => session.reply_ended(),
-        Stop::BadHealth => session.reply_ended(),
+        Stop::Reply | Stop::BadHealth => session.reply_ended(),
+        _ => session,
     }
 }
 
@@ -23,38 +21,19 @@ pub(crate) fn waited(session: Session, stop: Stop) -> Session
 pub(crate) fn kept(phase: Phase, stop: Stop, reply: &[u8; 20], serial: [u8; 16]) -> [u8; 16]
     ensures { result ≡ kept_at (is_info phase stop) reply.now serial }
 {
-    if is_info(phase, stop) {
-        let bytes: &[u8] = reply;
-        let read = Info::read(bytes);
-        let info = read.info;
-        return info.serial;
+    if !is_info(phase, stop) {
+        return serial;
     }
-    serial
+    match Info::read(reply) {
+        Ok(info) => info.serial,
+        Err(_) => serial,
+    }
 }
 
 // A reply that ended a call is an info reply where an info reply was awaited.
+#[tactic(auto, unfolding(crate::specs::inner::Noted::is_info, crate::specs::inner::Noted::reads_info))]
 fn is_info(phase: Phase, stop: Stop) -> bool
     ensures { result ≡ is_info phase stop }
 {
-    match stop {
-        Stop::AllTaken => false,
-        Stop::NoRoom => false,
-        Stop::Descriptor => false,
-        Stop::Reply => reads_info(phase),
-        Stop::BadHealth => false,
-    }
-}
-
-fn reads_info(phase: Phase) -> bool
-    ensures { result ≡ reads_info phase }
-{
-    match phase {
-        Phase::Idle => false,
-        Phase::SeekInfo => false,
-        Phase::SeekHealth => false,
-        Phase::SeekScan => false,
-        Phase::InfoReply => true,
-        Phase::HealthReply => false,
-        Phase::Scanning => false,
-    }
+    phase == Phase::InfoReply && stop == Stop::Reply
 }

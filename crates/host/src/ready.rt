@@ -6,7 +6,7 @@ ghost use Rattle.record.specs.Record.{record_of};
 
 use record::write::write;
 
-// A memory of 754 bytes always has room, so that only the count decides.
+// A memory of 754 bytes always has room, so that only the count decides; one that does not fit leaves the memory as it was.
 pub(crate) fn make_ready(
     number: u32,
     count: u16,
@@ -16,8 +16,5 @@ pub(crate) fn make_ready(
 )
     ensures { rec.new ≡ if_given (record_of (record { number = number; count = count; serial = serial.now; cells = cells.now })) (over rec.old) rec.old }
 {
-    let _bytes: &[u8] = serial;
-    let _words: &[u16] = cells;
-    let out: &mut [u8] = rec;
-    write(number, count, serial, cells, out);
+    let _ = write(number, count, serial, cells, rec);
 }

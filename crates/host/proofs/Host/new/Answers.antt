@@ -4,4 +4,4 @@ use Rattle.host.proofs.Host.new.Goals as goal
 
 pub returns : goal.returns
 unfolding fresh
-returns c = record { answer = rw (c.new-session.ensures.answer, c.new-reader.ensures.answer, c.new-gatherer.ensures.answer) }
+returns c = record { answer = rw (c.new.ensures.answer, c.new-2.ensures.answer, c.new-3.ensures.answer) }

@@ -3,4 +3,4 @@ use Rattle.host.proofs.Answers.{hears}
 use Rattle.host.proofs.Host.read.Goals as goal
 
 pub returns : goal.returns
-returns c = hears c.read-reading.ensures c.waited-session.ensures c.kept-serial.ensures
+returns c = hears c.read-reading.ensures c.waited.ensures c.kept-serial.ensures
