@@ -1,23 +1,24 @@
 // Bytes from standard input and from files. A read that fails is told apart from the input's end.
-ghost use Rattle.std.specs.Prelude.{◌≤◌, length};
+ghost use Rattle.std.specs.Prelude.{MatchResult, ◌≤◌, length};
+ghost use Rattle.std.specs.Io.{ReadsAtMost};
 ghost use Rattle.io.specs.Counts.{IsPrefixLen};
 
-use crate::output::{STDERR, failed};
+use crate::Program;
+use crate::output::{STDERR, Said};
 use std::fs::{File, OpenOptions};
 use std::io::{Error, Read};
 use std::os::fd::{AsRawFd, IntoRawFd};
 
 const STDIN: i32 = 0;
 
-// The system's number of the error where a name is no text.
+// The system's number of the error where a name is no text: its words are printed.
 const EILSEQ: i32 = 84;
 
-// How many bytes came, whether no read failed, and where one did, why.
-#[derive(Drop)]
-pub struct Got {
+// A read that failed: how many bytes came before it, and why.
+#[derive(Clone, Copy, Debug)]
+pub struct Broken {
     pub bytes: usize,
-    pub sound: bool,
-    pub why: Option<Error>,
+    pub why: Error,
 }
 
 // Why a name that is no text is not taken.
@@ -27,10 +28,7 @@ pub fn no_text() -> Error {
 
 // A name as the text that files are opened by.
 pub fn name_text(path: &[u8]) -> std::io::Result<&str> {
-    match std::str::from_utf8(path) {
-        Ok(text) => Ok(text),
-        Err(_) => Err(no_text()),
-    }
+    std::str::from_utf8(path).map_err(|_| no_text())
 }
 
 // Opens a file for reading.
@@ -49,96 +47,43 @@ fn open_blank(rt: &HostRuntime) -> std::io::Result<File> {
     OpenOptions::new().append(true).open(rt, "/dev/null")
 }
 
-// From here on no file that the program opens is standard input, output or error. Where that cannot be had it is said.
-pub fn keep_standard(rt: &HostRuntime, program: &[u8]) -> bool {
-    let mut n: usize = 0;
-    while n < 4 {
-        match open_blank(rt) {
-            Ok(file) => {
-                if file.as_raw_fd() > STDERR {
-                    return true;
-                }
-                file.into_raw_fd();
+impl Program<'_> {
+    // From here on no file that the program opens is standard input, output or error. Where that cannot be had it is said.
+    pub fn keep_standard(self) -> Result<(), Said> {
+        for _ in 0..4 {
+            let file = self.or_say(b"standard input, output and error", open_blank(self.rt))?;
+            if file.as_raw_fd() > STDERR {
+                return Ok(());
             }
-            Err(e) => {
-                failed(program, b"standard input, output and error", e);
-                return false;
-            }
+            file.into_raw_fd();
         }
-        n += 1;
+        Err(Said)
     }
-    false
-}
 
-// Whether standard input can be read at all; where not, why is said.
-pub fn is_readable(rt: &HostRuntime, program: &[u8]) -> bool {
-    let mut none = [0u8; 1];
-    let mut input = rt.stdin();
-    match input.read(&mut none[..0]) {
-        Ok(_) => true,
-        Err(e) => {
-            failed(program, b"standard input", e);
-            false
-        }
+    // Whether standard input can be read at all; where not, why is said.
+    pub fn is_readable(self) -> bool {
+        self.receive(&mut []).is_ok()
+    }
+
+    // One read of standard input: how many bytes came, 0 where the input ends. Where it cannot be read, why is said.
+    pub fn receive(self, part: &mut [u8]) -> Result<usize, Said>
+        ensures { ReadsAtMost result part.new }
+    {
+        self.or_say(b"standard input", self.rt.stdin().read(part))
     }
 }
 
-// One read.
-pub fn read_once<R: Read>(from: &mut R, part: &mut [u8]) -> Got
-    ensures { IsPrefixLen result.bytes part.new }
-{
-    match from.read(part) {
-        Ok(bytes) => Got {
-            bytes,
-            sound: true,
-            why: None,
-        },
-        Err(e) => Got {
-            bytes: 0,
-            sound: false,
-            why: Some(e),
-        },
-    }
-}
-
-// One read of standard input: how many bytes came, none where the input ends or cannot be read, which is said.
-pub fn receive(rt: &HostRuntime, program: &[u8], part: &mut [u8]) -> usize
-    ensures { IsPrefixLen result part.new }
-{
-    let mut input = rt.stdin();
-    let got = read_once(&mut input, part);
-    if let Some(e) = got.why {
-        failed(program, b"standard input", e);
-    }
-    got.bytes
-}
-
-// Reads until the buffer is full, the input ends or a read fails.
-pub fn read_whole<R: Read>(from: &mut R, buffer: &mut [u8]) -> Got
-    ensures { IsPrefixLen result.bytes buffer.new }
+// Reads until the buffer is full, the input ends or a read fails, and answers how many bytes came.
+pub fn read_whole<R: Read>(from: &mut R, buffer: &mut [u8]) -> Result<usize, Broken>
+    ensures { MatchResult result (λ n. IsPrefixLen n buffer.new) (λ e. IsPrefixLen e.bytes buffer.new) }
 {
     let mut n: usize = 0;
     while n < buffer.len() {
-        let got = read_once(from, &mut buffer[n..]);
-        if !got.sound {
-            return Got {
-                bytes: n,
-                sound: false,
-                why: got.why,
-            };
+        match from.read(&mut buffer[n..]) {
+            Ok(0) => return Ok(n),
+            Ok(m) => n += m,
+            Err(why) => return Err(Broken { bytes: n, why }),
         }
-        if got.bytes == 0 {
-            return Got {
-                bytes: n,
-                sound: true,
-                why: None,
-            };
-        }
-        n += got.bytes;
     }
-    Got {
-        bytes: n,
-        sound: true,
-        why: None,
-    }
+    Ok(n)
 }

@@ -4,3 +4,10 @@
 pub mod input;
 pub mod output;
 pub mod word;
+
+// A program: what it runs on, and its name, which stands before what it says.
+#[derive(Clone, Copy)]
+pub struct Program<'a> {
+    pub rt: &'a HostRuntime,
+    pub name: &'a [u8],
+}

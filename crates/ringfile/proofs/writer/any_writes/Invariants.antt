@@ -1,9 +1,0 @@
--- 64 descriptors are looked at.
-use Rattle.std.proofs.Common.{◌-◌, ◌≤◌}
-use Rattle.ringfile.proofs.writer.any_writes.Given as goal
-
-abbrev pub invariant-loop-n : goal.invariant-loop-n
-invariant-loop-n l = l.n ≤ 64
-
-abbrev pub decreases-loop-n : goal.decreases-loop-n
-decreases-loop-n l = 64 - l.n

@@ -1,9 +1,0 @@
--- The number stays in its type.
-use Rattle.std.proofs.Common.{◌-◌, ◌≤◌}
-use Rattle.ringfile.proofs.writer.number_of.Given as goal
-
-abbrev pub invariant-loop-n : goal.invariant-loop-n
-invariant-loop-n l = l.n ≤ 65535
-
-abbrev pub decreases-loop-n : goal.decreases-loop-n
-decreases-loop-n l = 65535 - l.n
