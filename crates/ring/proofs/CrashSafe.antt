@@ -24,7 +24,7 @@ use Rattle.ring.specs.History.{last, Event, attempt, erasure, after, tried, kept
 use Rattle.ring.specs.Promises.{AddGiven, EraseGiven}
 use Rattle.ring.specs.Calls.{Stored, Led, Proper, Start, ReadsAs}
 use Rattle.ring.specs.inner.Checks.{ringing}
-use Rattle.ring.proofs.Slots.{less_or_not}
+use Rattle.std.proofs.lemmas.Bool.{cases_lt}
 use Rattle.ring.proofs.Turns.{length-turns, get_or-turns, ring_erased, turns_erased}
 use Rattle.ring.proofs.Answered.{
   done_is,
@@ -87,7 +87,7 @@ module _ (S : ℕ) (mem : List ℕ) (s : Start S mem) where
             (λ g.
             given_no (λ t. t) [] (reading_none S mem i (asking_number S mem i ringed g))
             ∙ sym (get_or-eq_default (turns S mem) [] (rw (length-turns S mem) g)))
-            (less_or_not i (held S (head_of mem)));
+            (cases_lt i (held S (head_of mem)));
         there = λ i r l p.
             outcome_one r (Ok tt)
             (p.answer ∙ ap (mapped (λ _. tt)) (read_there i (rw (length-turns S mem) at l)) ∙ unfold mapped in (sym (done_is refl)));

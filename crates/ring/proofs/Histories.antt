@@ -13,7 +13,7 @@ use Rattle.ring.specs.Answers.{is_all_read}
 use Rattle.ring.specs.History.{last, Event, attempt, erasure, after, tried, kept}
 use Rattle.ring.specs.Calls.{Proper}
 use Rattle.ring.proofs.Lists.{last_all, last_last}
-use Rattle.ring.proofs.Slots.{less_or_not}
+use Rattle.std.proofs.lemmas.Bool.{cases_lt}
 use Rattle.ring.proofs.Stores.{ring_bytes, ring_whole}
 use Rattle.ring.proofs.Turns.{turns_bytes, turns_whole, turns_fit, ring_erased, turns_erased}
 use Rattle.ring.proofs.AllRead.{all_more}
@@ -26,7 +26,7 @@ module _ (S : ℕ) (mem rec : List ℕ) (n : ℕ) (v : IsRing S mem) (r : reads 
       (λ g.
       let e : n ≡ 755 = omega arith in
       rw e (ring_whole S mem rec (reads_length rec r) v))
-      (less_or_not n 755)
+      (cases_lt n 755)
 
   -- a turn is kept exactly when its last store was made
   pub turns_stores : turns S (stores S mem rec n) ≡ last (S - 1) (tried (turns S mem) rec n)
@@ -36,7 +36,7 @@ module _ (S : ℕ) (mem rec : List ℕ) (n : ℕ) (v : IsRing S mem) (r : reads 
       (λ g.
       let e : n ≡ 755 = omega arith in
       rw (le-ltb n 755 g) (rw e (turns_whole S mem rec v (reads_length rec r))))
-      (less_or_not n 755)
+      (cases_lt n 755)
 
 -- ---- of what is kept only the last ones matter
 
@@ -47,7 +47,7 @@ last_tried m ts us rec n e =
     (λ g.
     rw (le-ltb n 755 g)
     (sym (last_last m ts (rec ∷ [])) ∙ ap (λ (l : List (List ℕ)). last m (l ++ rec ∷ [])) e ∙ last_last m us (rec ∷ [])))
-    (less_or_not n 755)
+    (cases_lt n 755)
 
 last_kept : (m : ℕ) (ts us : List (List ℕ)) (l : List Event) → last m ts ≡ last m us → last m (kept ts l) ≡ last m (kept us l)
 unfolding kept
@@ -80,7 +80,7 @@ turns_after S mem (erasure ∷ l) v p =
 
 -- what is kept reads
 all_tried : (ts : List (List ℕ)) (rec : List ℕ) (n : ℕ) → is_all_read ts ≡ true → reads rec ≡ true → is_all_read (tried ts rec n) ≡ true
-all_tried ts rec n a r = ⊎_elim (λ l. rw (lt-ltb n 755 l) a) (λ g. rw (le-ltb n 755 g) (all_more ts rec a r)) (less_or_not n 755)
+all_tried ts rec n a r = ⊎_elim (λ l. rw (lt-ltb n 755 l) a) (λ g. rw (le-ltb n 755 g) (all_more ts rec a r)) (cases_lt n 755)
 
 pub all_kept : (ts : List (List ℕ)) (l : List Event) → is_all_read ts ≡ true → Proper l → is_all_read (kept ts l) ≡ true
 unfolding kept Proper

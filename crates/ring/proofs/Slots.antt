@@ -1,21 +1,13 @@
 -- Which slots hold turns: the `held` slots before slot h, counted round. To know: `slot_free` (the slot that is written next holds no
 -- turn), `slot_kept` and `slot_new` (where the turns are under the next head).
 use Prim.Native.Nat.{ℕ, ◌+◌, ◌-◌, ◌*◌, ◌%◌, ◌≤◌, ◌<◌, min}
-use mathlib.Core.Path.{◌≡◌, refl, sym, ap, ◌∙◌}
+use mathlib.Core.Path.{◌≡◌, sym, ap, ◌∙◌}
 use mathlib.Core.Logic.{◌≢◌, ◌⊎◌, inl, inr, ⊎_elim}
-use mathlib.Core.Bool.{Bool, true, false}
 use native.Mathlib.Nat.{mod-eq_of_lt, mod-eq-sub-mod, mod-lt, add-mod_left}
 use native.Mathlib.Omega.{arith}
-use lib.Dec.{ltb}
-use borrow.Author.Tests.{lt-ltb, le-ltb, ltb-true, ltb-false}
+use borrow.Author.Tests.{lt-ltb, le-ltb}
+use Rattle.std.proofs.lemmas.Bool.{cases_lt}
 use Rattle.ring.specs.Ring.{held, slot_of, next_head}
-
-pub less_or_not : (a b : ℕ) → (a < b) ⊎ (b ≤ a)
-less_or_not a b = go (ltb a b) refl
-  where
-    go : (t : Bool) → ltb a b ≡ t → (a < b) ⊎ (b ≤ a)
-    go true e = inl (ltb-true a b e)
-    go false e = inr (ltb-false a b e)
 
 -- the remainder of a number that is below two times the divisor
 pub mod_is : (S x : ℕ) → x < 2 * S → ((x < S) × (x % S ≡ x)) ⊎ ((S ≤ x) × (x % S ≡ x - S))
@@ -23,12 +15,12 @@ mod_is S x h =
     ⊎_elim
     (λ l. inl (l, mod-eq_of_lt l))
     (λ g. inr (g, mod-eq-sub-mod g ∙ mod-eq_of_lt (omega arith)))
-    (less_or_not x S)
+    (cases_lt x S)
 
 module _ (S : ℕ) (h : ℕ) (two : 2 ≤ S) (ok : h < 2 * S) where
   pub held_min : held S h ≡ min h (S - 1)
   unfolding held
-  held_min = ⊎_elim (λ l. simp (lt-ltb h S l) (omega arith)) (λ g. simp (le-ltb h S g) (omega arith)) (less_or_not h S)
+  held_min = ⊎_elim (λ l. simp (lt-ltb h S l) (omega arith)) (λ g. simp (le-ltb h S g) (omega arith)) (cases_lt h S)
 
   pub slot_round : (i : ℕ) → i < held S h → slot_of S h i ≡ (h - held S h + i) % S
   unfolding held slot_of
@@ -39,7 +31,7 @@ module _ (S : ℕ) (h : ℕ) (two : 2 ≤ S) (ok : h < 2 * S) where
       let e : h - h + i ≡ i = omega arith in
       simp (lt-ltb h S l, e) (sym (mod-eq_of_lt (omega arith))))
       (λ g. simp (le-ltb h S g))
-      (less_or_not h S)
+      (cases_lt h S)
 
   pub slot_below : (i : ℕ) → i < held S h → slot_of S h i < S
   slot_below i b = rw (slot_round i b) (mod-lt (h - held S h + i) (omega arith))
@@ -60,7 +52,7 @@ module _ (S : ℕ) (h : ℕ) (two : 2 ≤ S) (ok : h < 2 * S) where
 
   pub next_ok : next_head S h < 2 * S
   unfolding next_head
-  next_ok = ⊎_elim (λ l. simp (lt-ltb (h + 1) (2 * S) l) l) (λ g. simp (le-ltb (h + 1) (2 * S) g) (omega arith)) (less_or_not (h + 1) (2 * S))
+  next_ok = ⊎_elim (λ l. simp (lt-ltb (h + 1) (2 * S) l) l) (λ g. simp (le-ltb (h + 1) (2 * S) g) (omega arith)) (cases_lt (h + 1) (2 * S))
 
 -- how many turns the next record drives out: 1 from a full ring, else 0
 abbrev pub gone : ℕ → ℕ → ℕ
@@ -73,7 +65,7 @@ module _ (S : ℕ) (h : ℕ) (two : 2 ≤ S) (ok : h < 2 * S) where
       ⊎_elim
       (λ l. inl (simp (lt-ltb (h + 1) (2 * S) l), l))
       (λ g. inr (simp (le-ltb (h + 1) (2 * S) g), omega arith))
-      (less_or_not (h + 1) (2 * S))
+      (cases_lt (h + 1) (2 * S))
 
   pub held_next : held S (next_head S h) + gone S h ≡ held S h + 1
   held_next =

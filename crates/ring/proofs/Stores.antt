@@ -13,7 +13,8 @@ use lib.ListN.{length, get_or, take, drop, set, length-set}
 use lib.Seq.{get_or-set_same, get_or-set_other, paste, paste-zero, paste-suc}
 use Rattle.ring.specs.Ring.{slot_start, head_of, IsRing, in_slot, next_slot, next_head, touched, put, store, stores}
 use Rattle.ring.proofs.Lists.{part_after, part_before, part_pasted}
-use Rattle.ring.proofs.Slots.{less_or_not, next_ok}
+use Rattle.ring.proofs.Slots.{next_ok}
+use Rattle.std.proofs.lemmas.Bool.{cases_lt}
 
 pub store_byte : (S : ℕ) (mem rec : List ℕ) (k : ℕ) → k < 754 → store S mem rec k ≡ set mem (slot_start (head_of mem % S) + k) (get_or rec k 0)
 unfolding store touched put
@@ -40,7 +41,7 @@ store_size S mem rec k =
     ⊎_elim
     (λ l. simp (lt-ltb k 754 l, length-set))
     (λ g. simp (le-ltb k 754 g, length-set))
-    (less_or_not k 754)
+    (cases_lt k 754)
 
 pub stores_size : (S : ℕ) (mem rec : List ℕ) (n : ℕ) → length (stores S mem rec n) ≡ length mem
 unfolding stores
@@ -68,7 +69,7 @@ module _ (S : ℕ) (mem rec : List ℕ) (k : ℕ) (l : k < 754) where
       (⊎_elim
       (λ a. part_before 754 (slot_start s) mem (slot_start (head_of mem % S) + k) (get_or rec k 0) (omega arith))
       (λ a. part_after 754 (slot_start s) mem (slot_start (head_of mem % S) + k) (get_or rec k 0) (omega arith))
-      (less_or_not s (head_of mem % S)))
+      (cases_lt s (head_of mem % S)))
 
 -- ---- the stores of the record's bytes: all but the last store
 
@@ -162,5 +163,5 @@ ring_store S mem rec k v =
           ⊎_elim
           (λ l. rw (byte_head S mem rec k l) v.head)
           (λ g. rw (store_last S mem rec k (omega arith) g) (next_ok S (head_of mem) v.two_slots v.head))
-          (less_or_not k 754);
+          (cases_lt k 754);
     }

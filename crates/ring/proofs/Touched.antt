@@ -16,7 +16,8 @@ use Rattle.ring.specs.Ring.{slot_start, head_of, IsRing, held, slot_of, next_slo
 use Rattle.ring.specs.Answers.{storing}
 use Rattle.ring.specs.Tails.{in_tail}
 use Rattle.ring.specs.Promises.{StoreGiven}
-use Rattle.ring.proofs.Slots.{less_or_not, slot_free}
+use Rattle.ring.proofs.Slots.{slot_free}
+use Rattle.std.proofs.lemmas.Bool.{cases_lt}
 use Rattle.ring.proofs.Answered.{given_yes, given_no}
 
 -- a call of `store` changes no other byte, and no length, whatever it answers
@@ -55,7 +56,7 @@ module _ (S : ℕ) (mem : List ℕ) (k : ℕ) where
       let low : (touched S mem k - 1) % 768 < 754 = omega arith in
       rw (lt-ltb 0 (touched S mem k) some, lt-leb 754 ((touched S mem k - 1) % 768) low))
       (λ g. rw (touched_head S mem k g))
-      (less_or_not k 754)
+      (cases_lt k 754)
 
   pub touches_no_turn : IsRing S mem → (i : ℕ) → i < held S (head_of mem)
       → let start = slot_start (slot_of S (head_of mem) i) in start ≤ touched S mem k → touched S mem k < start + 754 → ⊥
@@ -67,4 +68,4 @@ module _ (S : ℕ) (mem : List ℕ) (k : ℕ) where
       (λ g.
       let at : touched S mem k ≡ 0 = touched_head S mem k g in
       omega arith)
-      (less_or_not k 754)
+      (cases_lt k 754)

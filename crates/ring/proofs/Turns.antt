@@ -11,7 +11,8 @@ use lib.ListN.{length, get_or, drop, length-append, length-drop, length-set, get
 use lib.Seq.{ext_get_or, get_or-drop, get_or_at, get_or-set_same}
 use Rattle.ring.specs.Ring.{head_of, IsRing, in_slot, held, slot_of, turn_at, first_turns, turns, next_head, store, stores, erased}
 use Rattle.ring.specs.History.{last}
-use Rattle.ring.proofs.Slots.{less_or_not, held_min, slot_free, gone, held_next, slot_kept, slot_new}
+use Rattle.ring.proofs.Slots.{held_min, slot_free, gone, held_next, slot_kept, slot_new}
+use Rattle.std.proofs.lemmas.Bool.{cases_lt}
 use Rattle.ring.proofs.Stores.{byte_head, byte_slot, bytes_head, bytes_slot, whole_head, whole_kept, whole_new}
 
 -- ---- the list of turns, by its indices
@@ -30,7 +31,7 @@ get_or-first S mem (suc n) i b =
     (λ g.
     let e : n ≡ i = omega arith in
     get_or_at (first_turns S mem n) (turn_at S mem n) [] [] i (length_first S mem n ∙ e) ∙ ap (turn_at S mem) e)
-    (less_or_not i n)
+    (cases_lt i n)
 
 pub same_first : (S : ℕ) (mem mem' : List ℕ) (n : ℕ) → ((i : ℕ) → i < n → turn_at S mem i ≡ turn_at S mem' i) → first_turns S mem n ≡ first_turns S mem' n
 unfolding first_turns
@@ -95,7 +96,7 @@ module _ (S : ℕ) (mem rec : List ℕ) (v : IsRing S mem) where
         ap (λ (x : ℕ). in_slot x new) (slot_new S h v.two_slots v.head i b g)
         ∙ whole_new S mem rec v e
         ∙ sym (get_or_at (turns S mem) rec [] [] j (omega arith)))
-        (less_or_not j (held S h))
+        (cases_lt j (held S h))
 
     -- after the last store the record is the newest turn, and at most S - 1 are held
     pub turns_whole : turns S (stores S mem rec 755) ≡ last (S - 1) (turns S mem ++ rec ∷ [])
