@@ -1,86 +1,91 @@
--- The lines of a text: `turn_line_lem` (the pieces of one make it), `lines_more` (one turn more), `turn_same` (the part that `turn` hands out
--- has the line of the turn), and how much room each takes.
-use Rattle.std.proofs.Common.{◌≡◌, ℕ, suc, ◌+◌, ◌-◌, ◌^◌, ◌<◌, ◌≤◌, Bool, true, false, not, List, [], ◌∷◌, ◌++◌, length, sym, refl, ap, ◌∙◌, ⊎_elim, append_assoc, append-nil, add-one, arith, length-append, eq-eqb, ne_eqb}
-use Rattle.paper.specs.Outcome.{gives, refuses}
-use Rattle.paper.specs.Refusals.{number_of}
+-- The lines of a text, and how much room each takes: `turn_added` (the pieces of one make it), `line_refused`, `lines_next` (one turn more), `turn_same`
+-- (the part that `turn` hands out has the line of the turn), `text_held` and `text_refused` (the whole text).
+use Rattle.std.proofs.Common.{◌≡◌, ℕ, ◌+◌, ◌<◌, ◌≤◌, Bool, true, false, List, ◌++◌, length, refl, sym, ap, ◌∙◌, inl, inr, arith, length-append, ne_eqb, eq-eqb, ◌*◌, ◌-◌, [], ◌∷◌, append_assoc, append-nil, add-one}
+use Rattle.std.specs.Prelude.{Ok, Err}
+use Rattle.std.proofs.lemmas.Bool.{cases_lt}
+use Rattle.std.proofs.lemmas.List.Sums.{count_by-le-length}
+use Rattle.paper.specs.Outcome.{Outcome, gives, refuses, mapped}
+use Rattle.paper.specs.Refusals.{number_of, outcome}
 use Rattle.paper.specs.declared.refusal.Refusal.{Refusal}
-use Rattle.paper.specs.declared.refusal.Refusal.TheVariants.{NotARecord}
-use Rattle.paper.proofs.Outcome.{gives_one, refuse_yes}
-use Rattle.record.specs.Record.{reads, held, turn_of}
-use Rattle.record.proofs.Reading.{reads_long}
+use Rattle.paper.proofs.Outcome.{gives_one, mapped_given}
+use Rattle.record.specs.Record.{Turn, turn_of, reads}
+use Rattle.record.specs.Promises.{NumberGiven, CountGiven}
 use Rattle.ring.specs.Ring.{head_of, IsRing, held as held_by, turn_at, first_turns, turns}
-use Rattle.ring.specs.Answers.{counted, counting}
-use Rattle.ring.specs.Promises.{HeldGiven, TurnGiven}
-use Rattle.ring.specs.declared.answer.Held.TheVariants.{Turns, Refused}
-use Rattle.ring.proofs.Slots.{less_or_not, held_min}
-use Rattle.ring.proofs.Answered.{given_yes, given_no, ring_ok, ring_means, asking_ok, reading_ok, reading_record}
+use Rattle.ring.specs.Answers.{counting}
+use Rattle.ring.specs.Promises.{TurnGiven}
+use Rattle.ring.proofs.Slots.{held_min}
+use Rattle.ring.proofs.Answered.{given_yes, given_no, mapped-refuses, ring_ok, ring_means, asking_ok, reading_ok, reading_record}
+use Rattle.record.proofs.Reading.{reads_long}
 use Rattle.text.specs.Decimal.{decimal}
 use Rattle.text.specs.Refused.{space, newline, refused_line}
-use Rattle.text.specs.Appends.{Appends}
+use Rattle.text.specs.Appends.{PieceAdded}
+use Rattle.text.specs.Promises.{PiecePut}
+use Rattle.text.specs.declared.Text.{Text}
 use Rattle.text.proofs.Decimal.{decimal_short}
-use Rattle.text.proofs.Appends.{append_more, append_is}
+use Rattle.text.proofs.Pieces.{added_none, added_first, added_more, added_is}
 use Rattle.text.proofs.Refused.{refused_short}
-use Rattle.listing.specs.Text.{filled, nearest, distance, turn_line, line_by, lines, held_line, text_by, text_of}
-use Rattle.listing.proofs.Cells.{turn_there}
+use Rattle.listing.specs.Text.{filled, nearest, distance, turn_line, line_by, lines, held_line, text_by, text_of, room_for, AddedWithin}
+use Rattle.listing.proofs.Cells.{full, filled_count, turn_not}
 
--- ---- a distance
+-- what is refused is refused for the same reason
+pub refused_same : {A B : Type 0} (f : A → B) (o : Outcome A) (q : Refusal) → outcome (Err q) ≡ mapped f o → o ≡ refuses (number_of q)
+unfolding outcome
+refused_same f o q e = mapped-refuses f o (sym e)
 
-pub distance_none : (q : ℕ) → q ≡ 0 → 45 ∷ [] ≡ distance q
-unfolding distance
-distance_none q e = rw (eq-eqb q 0 e)
-
-pub distance_some : (q : ℕ) → (q ≡ 0 → ⊥) → decimal q ≡ distance q
-unfolding distance
-distance_some q n = rw (ne_eqb q 0 n)
+-- a value that is told of a turn
+told : {A : Type 0} (f : Turn → A) (o : Outcome Turn) {a : A} {t : Turn} → outcome (Ok a) ≡ mapped f o → o ≡ gives t → a ≡ f t
+unfolding outcome mapped
+told f o e g = gives_one (e ∙ ap (mapped f) g)
 
 -- ---- room
 
-module _ {was is : List ℕ} {from r : ℕ} (k n : ℕ) (l : n < 10 ^ suc k) (p : Appends was from (decimal n ++ space) r is) where
-  pub field_far : r ≤ from + suc k + 1
-  field_far = omega (arith, p.end, length-append (decimal n) space, decimal_short k n l)
+distance_short : (q : ℕ) → q < 65536 → length (distance q) ≤ 5
+unfolding distance
+distance_short q l =
+    elim (cases_lt q 1) [
+      | inl z ↦ rw (eq-eqb q 0 (omega arith)) (omega arith)
+      | inr g ↦ rw (ne_eqb q 0 (omega arith)) (decimal_short 4 q (omega arith))
+    ]
 
-  -- behind a number of so many digits and its space there is room for m bytes
-  pub field_room : (m : ℕ) → from + suc k + 1 + m ≤ length was → r + m ≤ length is
-  field_room m fit = omega (arith, field_far, p.size)
+-- the line of these numbers
+line_of : ℕ → ℕ → List ℕ → List ℕ
+line_of number count cells = decimal number ++ space ++ (decimal count ++ space) ++ (decimal (filled cells) ++ space) ++ distance (nearest cells) ++ newline
 
-pub distance_far : {was is : List ℕ} {from r : ℕ} (q : ℕ) → q < 65536 → Appends was from (distance q) r is → r ≤ from + 5
-distance_far q l p =
-    ⊎_elim
-    (λ z.
-    let e = distance_none q (omega arith) in
-    omega (arith, p.end, ap length e))
-    (λ g.
-    let e = distance_some q (λ z. omega arith) in
-    omega (arith, p.end, ap length e, decimal_short 4 q (omega arith)))
-    (less_or_not q 1)
-
-pub refused_far : {was is : List ℕ} {from r : ℕ} (m : ℕ) → m < 256 → Appends was from (refused_line m) r is → r ≤ from + 12
-refused_far m l p = omega (arith, p.end, refused_short m l)
+line_short : (number count : ℕ) (cells : List ℕ) → number < 4294967296 → count < 65536 → length cells ≤ 360 → nearest cells < 65536 → length (line_of number count cells) ≤ 27
+unfolding line_of
+line_short number count cells a b c d =
+    simp length-append
+    (omega (
+      arith,
+      decimal_short 9 number (omega arith),
+      decimal_short 4 count (omega arith),
+      decimal_short 2 (filled cells) (omega (arith, filled_count cells, count_by-le-length full cells)),
+      distance_short (nearest cells) d,
+    ))
 
 -- ---- one line
 
-pub turn_line_lem : (rec : List ℕ) {was one two three four is : List ℕ} {from a b c d r number count n q : ℕ}
-    → Appends was from (decimal number ++ space) a one → number ≡ (held rec).number
-    → Appends one a (decimal count ++ space) b two → count ≡ (held rec).count
-    → Appends two b (decimal n ++ space) c three → n ≡ filled (held rec).cells
-    → Appends three c (distance q) d four → q ≡ nearest (held rec).cells
-    → Appends four d newline r is
-    → Appends was from (turn_line (held rec)) r is
-unfolding turn_line
-turn_line_lem rec p₁ e₁ p₂ e₂ p₃ e₃ p₄ e₄ p₅ =
-    append_is (append_more (append_more (append_more (append_more p₁ p₂) p₃) p₄) p₅) (rw (e₁, e₂, e₃, e₄))
+line_told : {o : Outcome Turn} {t : Turn} {number count : ℕ} {cells : List ℕ} → o ≡ gives t → number ≡ t.number → count ≡ t.count → cells ≡ t.cells
+    → line_of number count cells ≡ line_by o
+unfolding line_by turn_line line_of
+line_told e a b c = rw (e, a, b, c)
 
-pub line_read : (rec : List ℕ) → reads rec ≡ true → turn_line (held rec) ≡ line_by (turn_of rec)
+pub turn_added : {was is : Text} (rec : List ℕ) {number count : ℕ} (cells : List ℕ) → NumberGiven rec (Ok number) → CountGiven rec (Ok count)
+    → outcome (Ok cells) ≡ mapped (λ (t : Turn). t.cells) (turn_of rec) → number < 4294967296 → count < 65536 → length cells ≡ 360 → nearest cells < 65536
+    → PieceAdded was (decimal number ++ space ++ (decimal count ++ space) ++ (decimal (filled cells) ++ space) ++ distance (nearest cells) ++ newline) is
+    → AddedWithin 27 was (line_by (turn_of rec)) is
+unfolding outcome line_of
+turn_added rec {number} {count} cells n c e a b l d p =
+    let g = mapped_given (λ (t : Turn). t.cells) (turn_of rec) e in
+    let line = line_told g.1.0 (told (λ t. t.number) (turn_of rec) n.answer g.1.0) (told (λ t. t.count) (turn_of rec) c.answer g.1.0) g.1.1 in
+    record { added = added_is p line; short = rw line at (line_short number count cells a b (omega arith) d) }
+
+pub line_refused : {was is : Text} (rec : List ℕ) (q : Refusal) (m : ℕ) → turn_of rec ≡ refuses (number_of q) → m ≡ number_of q → m < 256
+    → PiecePut was (refused_line m) is → AddedWithin 27 was (line_by (turn_of rec)) is
 unfolding line_by
-line_read rec r = rw (turn_there rec r)
-
-not_there : (rec : List ℕ) → reads rec ≡ false → turn_of rec ≡ refuses (number_of NotARecord)
-unfolding turn_of
-not_there rec r = refuse_yes _ _ (ap not r)
-
-pub line_not : (rec : List ℕ) (m : ℕ) → reads rec ≡ false → m ≡ number_of NotARecord → refused_line m ≡ line_by (turn_of rec)
-unfolding line_by
-line_not rec m r e = rw (e, not_there rec r)
+line_refused rec q m e f l p =
+    let line : refused_line m ≡ line_by (turn_of rec) = rw (e, f) in
+    record { added = added_is (added_first p) line; short = omega (arith, ap length line, refused_short m l) }
 
 -- ---- all lines
 
@@ -110,25 +115,56 @@ turn_same S mem i part v l p = go (reads (turn_at S mem i)) refl
     go false r =
         let none : part ≡ [] = p.answer ∙ given_no (λ t. t) [] (reading_record S mem i (asking_ok S mem i (ring_ok S mem (gives tt) v.size v.head) l) r) in
         ap (λ (t : List ℕ). line_by (turn_of t)) none
-        ∙ ap line_by (not_there [] (sym (reads_long [] (λ e. omega arith))) ∙ sym (not_there (turn_at S mem i) r))
+        ∙ ap line_by (turn_not [] (sym (reads_long [] (λ e. omega arith))) ∙ sym (turn_not (turn_at S mem i) r))
+
+pub lines_none : (S : ℕ) (mem : List ℕ) (was : Text) → AddedWithin (27 * 0) was (lines (first_turns S mem 0)) was
+unfolding lines first_turns
+lines_none S mem was = record { added = added_none was; short = omega arith }
+
+pub lines_next : (S : ℕ) (mem : List ℕ) (i : ℕ) {was mid is : Text} (part : List ℕ) → line_by (turn_of part) ≡ line_by (turn_of (turn_at S mem i))
+    → AddedWithin (27 * i) was (lines (first_turns S mem i)) mid → AddedWithin 27 mid (line_by (turn_of part)) is
+    → AddedWithin (27 * (i + 1)) was (lines (first_turns S mem (i + 1))) is
+lines_next S mem i part e p q =
+    let line = rw e at q.added in
+    let more = lines_more S mem i in
+    record {
+      added = added_is (added_more p.added line) more;
+      short = omega (arith, p.short, q.short, ap length e, ap length more, length-append (lines (first_turns S mem i)) (line_by (turn_of (turn_at S mem i))));
+    }
+
+pub lines_end : (S : ℕ) (mem : List ℕ) (i n : ℕ) {was is : Text} → n ≡ held_by S (head_of mem) → i ≡ n
+    → AddedWithin (27 * i) was (lines (first_turns S mem i)) is → AddedWithin (27 * n) was (lines (turns S mem)) is
+lines_end S mem i n e f p =
+    let all = lines_all S mem i (f ∙ e) in
+    record { added = added_is p.added all; short = omega (arith, p.short, f, ap length all) }
 
 -- ---- the whole text
 
 -- what a count of turns means
-pub turns_counted : (S : ℕ) (mem : List ℕ) (n : ℕ) → 2 ≤ S → S ≤ 128 → HeldGiven S mem (Turns n) → IsRing S mem × (n ≡ held_by S (head_of mem)) × (n ≤ S - 1)
-unfolding counted counting
+pub turns_counted : (S : ℕ) (mem : List ℕ) (n : ℕ) → 2 ≤ S → S ≤ 128 → counting S mem ≡ gives n → IsRing S mem × (n ≡ held_by S (head_of mem)) × (n ≤ S - 1)
+unfolding counting
 turns_counted S mem n two byte p =
-    let w = ring_means S mem (gives (held_by S (head_of mem))) (sym p.answer) in
+    let w = ring_means S mem (gives (held_by S (head_of mem))) p in
     let e : n ≡ held_by S (head_of mem) = sym (gives_one w.2) in (
       record { two_slots = two; head_is_byte = byte; size = w.0; head = w.1 },
       e,
       omega (arith, held_min S (head_of mem) two w.1),
     )
 
-pub text_held : (S : ℕ) (mem : List ℕ) (n : ℕ) → HeldGiven S mem (Turns n) → held_line n ++ lines (turns S mem) ≡ text_of S mem
-unfolding text_of text_by counted
-text_held S mem n p = rw (← p.answer)
+held_short : (n : ℕ) → n < 1000 → length (held_line n) ≤ 9
+unfolding held_line
+held_short n l = simp length-append (omega (arith, decimal_short 2 n (omega arith)))
 
-pub text_refused : (S : ℕ) (mem : List ℕ) {q : Refusal} (m : ℕ) → HeldGiven S mem (Refused q) → m ≡ number_of q → refused_line m ≡ text_of S mem
-unfolding text_of text_by counted
-text_refused S mem m p e = rw (← p.answer, e)
+pub text_held : (S : ℕ) (mem : List ℕ) (n : ℕ) {was mid is : Text} → counting S mem ≡ gives n → n ≤ S - 1 → n < 1000 → PieceAdded was (held_line n) mid
+    → AddedWithin (27 * n) mid (lines (turns S mem)) is → AddedWithin (room_for S) was (text_of S mem) is
+unfolding text_of text_by
+text_held S mem n e l k p q =
+    let text : held_line n ++ lines (turns S mem) ≡ text_of S mem = rw e in
+    record { added = added_is (added_more p q.added) text; short = omega (arith, ap length text, length-append (held_line n) (lines (turns S mem)), held_short n k, q.short) }
+
+pub text_refused : (S : ℕ) (mem : List ℕ) (q : Refusal) (m : ℕ) {was is : Text} → 2 ≤ S → counting S mem ≡ refuses (number_of q) → m ≡ number_of q → m < 256
+    → PiecePut was (refused_line m) is → AddedWithin (room_for S) was (text_of S mem) is
+unfolding text_of text_by
+text_refused S mem q m two e f l p =
+    let text : refused_line m ≡ text_of S mem = rw (e, f) in
+    record { added = added_is (added_first p) text; short = omega (arith, ap length text, refused_short m l) }

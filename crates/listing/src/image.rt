@@ -1,66 +1,61 @@
 // The text of a whole ring.
-ghost use Rattle.std.specs.Prelude.{◌≡◌, ◌+◌, ◌*◌, ◌<◌, ◌≤◌, length};
-ghost use Rattle.ring.specs.Ring.{slots, IsRing, head_of, held as held_by, turns};
-ghost use Rattle.listing.specs.Text.{lines, held_line, text_of, room_for};
+ghost use Rattle.std.specs.Prelude.{◌≡◌, ◌*◌};
+ghost use Rattle.paper.specs.Outcome.{gives};
+ghost use Rattle.ring.specs.Ring.{slots, turns};
+ghost use Rattle.ring.specs.Answers.{counting};
+ghost use Rattle.text.specs.Appends.{PieceAdded};
+ghost use Rattle.listing.specs.Text.{lines, held_line, text_of, room_for, AddedWithin};
 ghost use Rattle.listing.specs.Promises.{ListGiven};
-ghost use Rattle.text.specs.Appends.{Appends};
 
 use crate::line::put_line;
-use paper::refusal::Written;
+use paper::refusal::Refusal;
 use paper::write::write;
-use ring::answer::Held;
-use text::{put_byte, put_bytes, put_number, put_refused};
+use text::Text;
 
 // A buffer of so many bytes is never too short: 9 for the count, 27 for each turn.
 pub const ROOM: usize = 9 + 27 * (ring::SLOTS - 1);
 
 // The line of the count.
-fn put_held(text: &mut [u8], n: usize) -> usize
-    requires n_bound { n < 1000 }
-    requires in_bounds { 9 ≤ length text.old }
-    ensures { Appends text.old 0 (held_line n) result text.new × (result ≤ 9) }
+fn put_held(text: &mut Text, n: usize)
+    ensures { PieceAdded text.old (held_line n) text.new }
 {
-    let digits = put_bytes(text, 0, b"held ");
-    let end = put_number(text, digits, n as u64);
-    put_byte(text, end, b'\n')
+    text.bytes(b"held ");
+    text.number(n as u64);
+    text.byte(b'\n');
 }
 
 // The lines of the n turns that are held.
-fn put_turns(mem: &[u8], n: usize, text: &mut [u8], from: usize) -> usize
-    requires ring { IsRing slots mem.now }
-    requires n_value { n ≡ held_by slots (head_of mem.now) }
-    requires n_in_bounds { from + 27 * n ≤ length text.old }
-    ensures { Appends text.old from (lines (turns slots mem.now)) result text.new × (result ≤ from + 27 * n) }
+fn put_turns(text: &mut Text, mem: &[u8], n: usize)
+    requires { counting slots mem.now ≡ gives n }
+    ensures { AddedWithin (27 * n) text.old (lines (turns slots mem.now)) text.new }
 {
-    let mut next = from;
-    let mut i: usize = 0;
-    while i < n {
-        next = put_line(text, next, ring::turn(mem, i));
-        i += 1;
+    for i in 0..n {
+        put_line(text, ring::turn(mem, i));
     }
-    next
 }
 
-// The text at the front of a buffer that has room for it, and its length.
-fn compose(mem: &[u8], text: &mut [u8]) -> usize
-    requires { room_for slots ≤ length text.old }
-    ensures { Appends text.old 0 (text_of slots mem.now) result text.new × (result ≤ room_for slots) }
+// The text of an image.
+fn compose(text: &mut Text, mem: &[u8])
+    ensures { AddedWithin (room_for slots) text.old (text_of slots mem.now) text.new }
 {
-    let h = ring::held(mem);
-    match h {
-        Held::Turns(n) => {
-            let from = put_held(text, n);
-            put_turns(mem, n, text, from)
+    match ring::held(mem) {
+        Ok(n) => {
+            put_held(text, n);
+            put_turns(text, mem, n);
         }
-        Held::Refused(r) => put_refused(text, 0, r.number()),
+        Err(r) => text.refused(r.number()),
     }
 }
 
 // Writes the text of an image at the front of the output: the bytes written, or OutputShort and the output as it was.
-pub fn list(mem: &[u8], out: &mut [u8]) -> Written
+pub fn list(mem: &[u8], out: &mut [u8]) -> Result<usize, Refusal>
     ensures { ListGiven slots mem.now out.old result out.new }
 {
-    let mut text = [0u8; ROOM];
-    let n = compose(mem, &mut text);
-    write(&text[..n], out)
+    let mut room = [0u8; ROOM];
+    let mut text = Text {
+        bytes: &mut room,
+        end: 0,
+    };
+    compose(&mut text, mem);
+    write(text.as_bytes(), out)
 }
