@@ -12,7 +12,7 @@ use lib.Seq.{take_at, drop_at, take_all}
 use Rattle.paper.proofs.Writing.{written_front}
 use Rattle.paper.specs.Outcome.{gives, if_given}
 use Rattle.paper.specs.Words.{Each}
-use Rattle.paper.specs.declared.refusal.Written.TheVariants.{Bytes}
+use Rattle.std.specs.Prelude.{Ok}
 use Rattle.paper.specs.Writing.{Writes}
 use Rattle.paper.proofs.Outcome.{refuse_not}
 use Rattle.framing.specs.Framing.{frame, size, State, fresh, fed, after}
@@ -103,7 +103,7 @@ scan_sample (a ∷ b ∷ c ∷ d ∷ []) bs m l i = absurd (omega arith)
 scan_sample (a ∷ b ∷ c ∷ d ∷ e ∷ f ∷ w) bs m l i = absurd (omega arith)
 
 -- what the model sends is fit
-fit_sent : (m : Model) (x : Sample) (was is : List ℕ) (n : ℕ) → Writes (sample_sent m x) was (Bytes n) is → fit x.angle.0 x.quality ≡ true
+fit_sent : (m : Model) (x : Sample) (was is : List ℕ) (n : ℕ) → Writes (sample_sent m x) was (Ok n) is → fit x.angle.0 x.quality ≡ true
 unfolding sample_sent bytes_of_sample
 fit_sent m x was is n w =
     let f = written_front (sample_sent m x) was is n w in

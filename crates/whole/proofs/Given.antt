@@ -20,16 +20,19 @@ use Rattle.stream.specs.declared.Reader.{Reader}
 use Rattle.stream.proofs.Table.{reader_lawful}
 use Rattle.stream.proofs.History.{call_means, call_none_due}
 use Rattle.stream.proofs.inner.Promise.{waits}
-use Rattle.paper.specs.Outcome.{Outcome, gives, refuses, if_given}
+use Rattle.paper.specs.Outcome.{Outcome, gives, refuses, mapped}
+use Rattle.paper.specs.Refusals.{outcome}
+use Rattle.paper.proofs.Outcome.{gives_one, gives_refuses}
 use Rattle.wire.specs.declared.sample.Sample.{Sample}
 use Rattle.turn.specs.Gather.{End, row_of as row_samples}
 use Rattle.turn.specs.Promises.{gathering}
-use Rattle.host.specs.Host.{waited, kept, through, reading_of, gathered}
+use Rattle.host.specs.Host.{waited, kept, through, reading_of, gathered, turned}
 use Rattle.host.specs.Promises.{Hears}
 use Rattle.host.specs.declared.Host.{Host}
 use Rattle.host.specs.declared.Heard.{Heard}
+use Rattle.host.specs.declared.Turned.{Turned}
 use Rattle.host.proofs.Noted.{through_append}
-use Rattle.whole.specs.Work.{Gathered, done, more, Works, over, reads}
+use Rattle.whole.specs.Work.{Gathered, done, refused, more, Works, over, reads}
 
 -- one reading of these bytes, and what it gives
 abbrev pub reading : Reader → List ℕ → Result Phase Event
@@ -94,15 +97,17 @@ pub record Alike (h z : Host) : Type 0 where
 alike : {h z : Host} → z.session ≡ h.session → z.reader ≡ h.reader → z.serial ≡ h.serial → Alike h z
 alike a b c = record { session = a; reader = b; serial = c }
 
-gathered_alike : (h : Host) (o : Outcome (List Sample)) (e : List Sample → End) (z : Host) → z ≡ if_given o (λ (ms : List Sample). gathered h (e ms)) h → Alike h z
-unfolding if_given gathered
-gathered_alike h (gives ms) e z i = rw i (alike refl refl refl)
-gathered_alike h (refuses n) e z i = rw i (alike refl refl refl)
+turned_alike : (h : Host) (o : Outcome (List Sample)) (e : List Sample → End) (r : Turned) → gives r ≡ mapped (λ (ms : List Sample). turned h (e ms)) o → Alike h r.host
+unfolding mapped turned gathered
+turned_alike h (gives ms) e r i = rw (gives_one i) (alike refl refl refl)
+turned_alike h (refuses n) e r i = absurd (gives_refuses i)
 
 pub row_alike : {h z : Host} {row f c f' c' : List ℕ} {recs : List (List ℕ)} → Gathered h row f c recs z f' c' → Alike h z
+unfolding outcome
 row_alike done = alike refl refl refl
+row_alike (refused number was is q p d) = row_alike d
 row_alike (more {h} {z} {row} {f} {c} number was is r b l p d) =
-    let x = gathered_alike h (row_samples row) (gathering h.gatherer f c) r.host p.host in
+    let x = turned_alike h (row_samples row) (gathering h.gatherer f c) r p.answer in
     let y = row_alike d in
     alike (y.session ∙ x.session) (y.reader ∙ x.reader) (y.serial ∙ x.serial)
 

@@ -10,7 +10,7 @@ use lib.ListN.{length, take, drop, take-append-drop}
 use Rattle.paper.proofs.Outcome.{refuse_not}
 use Rattle.paper.specs.Outcome.{gives, if_given}
 use Rattle.paper.specs.Words.{Each, Bytes}
-use Rattle.paper.specs.declared.refusal.Written.TheVariants as writing
+use Rattle.std.specs.Prelude.{Ok}
 use Rattle.wire.specs.Request.{kind_of}
 use Rattle.wire.specs.Reply.{info_of, health_of}
 use Rattle.wire.specs.Descriptor.{scan_descriptor, info_descriptor, health_descriptor}
@@ -53,31 +53,31 @@ unfolding info_of
 info_long w e = eqb-true (length w) 20 (not-false _ (refuse_not _ _ _ e).0)
 
 -- the host has sent a request
-module _ {h : Host} {time : ℕ} {q : Request} {payload was : List ℕ} {r : Asked} {is : List ℕ} (a : Asks h time q payload was r is) (n : ℕ) (done : r.answer ≡ writing.Bytes n) where
+module _ {h : Host} {time : ℕ} {q : Request} {payload was : List ℕ} {r : Asked} {is : List ℕ} (a : Asks h time q payload was (Ok r) is) where
   -- what it reads back of a reply: behind the descriptor these bytes and nothing else, and the session awaits none
   pub record Replied (w bs : List ℕ) (z : Host) : Type 0 where
     pub things : given r.host.reader bs ≡ headed ∷ replied w ∷ []
     pub session : z.session ≡ ended r.host.session
 
-  module _ (m : Model) (was' is' : List ℕ) (s : Answered) (k : ℕ) (sent : s.answer ≡ writing.Bytes k) (asking : Asking m q was' s is') where
+  module _ (m : Model) (was' is' : List ℕ) (s : Answered) (asking : Asking m q was' (Ok s) is') where
     -- THE INFO THAT THE BENCH GAVE, and its serial is kept
     pub record InfoBack (z : Host) : Type 0 where
       pub reply : List ℕ
-      pub replied : Replied reply (take k is') z
+      pub replied : Replied reply (take s.bytes is') z
       pub info : info_of reply ≡ gives m.info
       pub serial : z.serial ≡ m.info.serial
 
-    bytes_are : (d : List ℕ) → take 7 (take k is') ≡ d → take k is' ≡ d ++ drop 7 (take k is')
-    bytes_are d e = sym (take-append-drop 7 (take k is')) ∙ ap (λ (l : List ℕ). l ++ drop 7 (take k is')) e
+    bytes_are : (d : List ℕ) → take 7 (take s.bytes is') ≡ d → take s.bytes is' ≡ d ++ drop 7 (take s.bytes is')
+    bytes_are d e = sym (take-append-drop 7 (take s.bytes is')) ∙ ap (λ (l : List ℕ). l ++ drop 7 (take s.bytes is')) e
 
-    pub info_back : {f c : List ℕ} {recs : List (List ℕ)} {z : Host} → kind_of q.0 ≡ GetInfo → length m.info.serial ≡ 16 → Works r.host f c (take k is') recs z → InfoBack z
+    pub info_back : {f c : List ℕ} {recs : List (List ℕ)} {z : Host} → kind_of q.0 ≡ GetInfo → length m.info.serial ≡ 16 → Works r.host f c (take s.bytes is') recs z → InfoBack z
     unfolding opening through waited kept_by if_given
     info_back kind l w =
-        let reply : List ℕ = drop 7 (take k is') in
-        let i = info_read m q was' is' s k sent asking kind l in
-        let b : take k is' ≡ info_descriptor ++ reply = bytes_are info_descriptor i.0 in
-        let g : given r.host.reader (take k is') ≡ headed ∷ replied reply ∷ [] =
-        ap (given r.host.reader) b ∙ descriptor_given (seeks_info refl) r.host.reader (asked_awaits a n done SeekInfo (rw kind)) reply
+        let reply : List ℕ = drop 7 (take s.bytes is') in
+        let i = info_read m q was' is' (Ok s) s refl asking kind l in
+        let b : take s.bytes is' ≡ info_descriptor ++ reply = bytes_are info_descriptor i.0 in
+        let g : given r.host.reader (take s.bytes is') ≡ headed ∷ replied reply ∷ [] =
+        ap (given r.host.reader) b ∙ descriptor_given (seeks_info refl) r.host.reader (asked_awaits a SeekInfo (rw kind)) reply
         ∙ ap {B = List Thing} (λ x. headed ∷ x) (info_given reply (info_long reply i.1)) in
         let x = work_noted w in
         record {
@@ -90,24 +90,24 @@ module _ {h : Host} {time : ℕ} {q : Request} {payload was : List ℕ} {r : Ask
     -- THE HEALTH that the bench set
     pub record HealthBack (z : Host) : Type 0 where
       pub reply : List ℕ
-      pub replied : Replied reply (take k is') z
+      pub replied : Replied reply (take s.bytes is') z
       pub health : health_of reply ≡ gives (health_now m)
 
-    pub health_back : {f c : List ℕ} {recs : List (List ℕ)} {z : Host} → kind_of q.0 ≡ GetHealth → m.error < 65536 → Works r.host f c (take k is') recs z → HealthBack z
+    pub health_back : {f c : List ℕ} {recs : List (List ℕ)} {z : Host} → kind_of q.0 ≡ GetHealth → m.error < 65536 → Works r.host f c (take s.bytes is') recs z → HealthBack z
     unfolding opening through waited
     health_back kind l w =
-        let reply : List ℕ = drop 7 (take k is') in
-        let i = health_read_lem m q was' is' s k sent asking kind l in
-        let b : take k is' ≡ health_descriptor ++ reply = bytes_are health_descriptor i.0 in
-        let g : given r.host.reader (take k is') ≡ headed ∷ replied reply ∷ [] =
-        ap (given r.host.reader) b ∙ descriptor_given (seeks_health refl) r.host.reader (asked_awaits a n done SeekHealth (rw kind)) reply
+        let reply : List ℕ = drop 7 (take s.bytes is') in
+        let i = health_read_lem m q was' is' (Ok s) s refl asking kind l in
+        let b : take s.bytes is' ≡ health_descriptor ++ reply = bytes_are health_descriptor i.0 in
+        let g : given r.host.reader (take s.bytes is') ≡ headed ∷ replied reply ∷ [] =
+        ap (given r.host.reader) b ∙ descriptor_given (seeks_health refl) r.host.reader (asked_awaits a SeekHealth (rw kind)) reply
         ∙ ap {B = List Thing} (λ x. headed ∷ x) (health_given reply i.1) in
         record { reply = reply; replied = record { things = g; session = (work_noted w).session ∙ rw g }; health = i.1 }
 
   -- SAMPLES TO RECORDS: the model answered a scan's request with its descriptor, and was given these samples
   module _ {m : Model} {ms : List Sample} {bs : List ℕ} (scan : opens q ≡ gives SeekScan) (long : length h.serial ≡ 16) (bytes : Bytes h.serial) (sends : Sends m ms bs) where
     pub samples_given : given r.host.reader (scan_descriptor ++ bs) ≡ headed ∷ map point ms
-    samples_given = scan_given sends r.host.reader (asked_awaits a n done SeekScan scan)
+    samples_given = scan_given sends r.host.reader (asked_awaits a SeekScan scan)
 
     points_are : points_of (given r.host.reader (scan_descriptor ++ bs)) ≡ ms
     unfolding points_of
@@ -120,7 +120,7 @@ module _ {h : Host} {time : ℕ} {q : Request} {payload was : List ℕ} {r : Ask
     pub model_to_records : {f c : List ℕ} {recs : List (List ℕ)} {z : Host} → Works r.host f c (scan_descriptor ++ bs) recs z → Tell h.serial recs (closed_by ms) × (is_all_read recs ≡ true)
     model_to_records {recs = recs} w =
         let near = subst (λ (l : List Sample). Each Near l) (sym points_are) (sends_read sends).near in
-        let t = work_tells h.serial long bytes (asked_fresh a n done) (asked_serial a n done) w scans_all near in
+        let t = work_tells h.serial long bytes (asked_fresh a) (asked_serial a) w scans_all near in
         (subst (λ (l : List Sample). Tell h.serial recs (closed_by l)) points_are t.0, t.1)
 
     -- RECORDS TO LISTING: stored one after the other in a ring whose turns read, the last S - 1 of all are what the listing shows

@@ -2,7 +2,7 @@
 use Prim.Native.Nat.{ℕ, ◌+◌, ◌*◌, ◌<◌}
 use mathlib.Core.Path.{◌≡◌, refl, sym, ap, ◌∙◌}
 use mathlib.Core.Bool.{Bool, true, false, not}
-use mathlib.Core.Option.{Option, none, some}
+use Rattle.std.specs.Prelude.{Option, Some, None, Ok, Err}
 use mathlib.Core.List.{List, [], ◌∷◌, ◌++◌, flat_map, append_assoc}
 use native.Mathlib.Omega.{arith}
 use borrow.Author.Tests.{not-false}
@@ -10,27 +10,26 @@ use lib.ListN.{length, drop}
 use lib.Seq.{drop_at}
 use Rattle.paper.specs.Outcome.{gives, if_given, mapped}
 use Rattle.paper.specs.Writing.{over as overwritten}
-use Rattle.paper.proofs.Outcome.{gives_one, refuse_no, refuse_not}
+use Rattle.paper.specs.Refusals.{outcome}
+use Rattle.paper.specs.declared.refusal.Refusal.{Refusal}
+use Rattle.paper.proofs.Outcome.{gives_one, gives_refuses, refuse_no, refuse_not}
 use Rattle.framing.proofs.Giving.{flat_map-append}
 use Rattle.wire.specs.declared.sample.Sample.{Sample}
 use Rattle.wire.specs.Sample.{fit, words_of, are_words, sample_from, words_of_sample, sample_of_words}
 use Rattle.paper.proofs.Cases.{both_hold, none_some}
 use Rattle.wire.proofs.WriteThenRead.{words_back}
 use Rattle.turn.specs.Turns.{Turn}
-use Rattle.turn.specs.Gather.{Held, End, closes, next, taken, row_reads, samples_in, row_of, told_by, gathered as gathered_by, count_in}
+use Rattle.turn.specs.Gather.{Held, End, closes, next, taken, row_reads, samples_in, row_of, told_by, count_in}
 use Rattle.turn.specs.Promises.{gathering, Gathers}
 use Rattle.turn.specs.Calls.{Fed}
 use Rattle.turn.specs.Calls as calls
-use Rattle.turn.specs.declared.gather.Gathered.TheVariants as answer
 use Rattle.turn.proofs.Gathering.{taken_closed, taken_more}
 use Rattle.record.specs.Record.{record_of}
-use Rattle.host.specs.Host.{gathered, record_for, ready, told_of}
+use Rattle.host.specs.Host.{gathered, record_for, ready, turned}
 use Rattle.host.specs.Promises.{Turns}
 use Rattle.host.specs.declared.Host.{Host}
 use Rattle.host.specs.declared.Turned.{Turned}
-use Rattle.host.specs.declared.Told.TheVariants as told
-use Rattle.host.proofs.Determined.{told_one}
-use Rattle.whole.specs.Work.{ready_by, Gathered, done, more}
+use Rattle.whole.specs.Work.{ready_by, Gathered, done, refused, more}
 use Rattle.whole.proofs.Things.{all_fit}
 
 -- ---- the words of samples are those samples' row
@@ -81,7 +80,7 @@ record Split (h : Held) (k : ℕ) (ms : List Sample) : Type 0 where
   back : List Sample
   is : ms ≡ front ++ back
   words : (taken h k ms).words ≡ k + 3 * length front
-  all : (taken h k ms).turn ≡ none → back ≡ []
+  all : (taken h k ms).turn ≡ None → back ≡ []
 
 split_step : (h : Held) (k : ℕ) (m : Sample) (ms : List Sample) → Split (next h m) (k + 3) ms → (b : Bool) → closes h.count m ≡ b → Split h k (m ∷ ms)
 split_step h k m ms s true e =
@@ -129,69 +128,76 @@ pub record Rowed (h : Host) (ms : List Sample) (f c : List ℕ) (recs : List (Li
 
 -- a call over the words of samples
 record Took (h : Host) (ms : List Sample) (number : ℕ) (f c was : List ℕ) (r : Turned) (f' c' is : List ℕ) : Type 0 where
-  answer : told_of r.answer ≡ gives (gathering h.gatherer f c ms).turn
-  host : r.host ≡ gathered h (gathering h.gatherer f c ms)
-  words : r.words ≡ (gathering h.gatherer f c ms).words
+  answer : r ≡ turned h (gathering h.gatherer f c ms)
   filled : f' ≡ (gathering h.gatherer f c ms).held.filling
   shown : c' ≡ (gathering h.gatherer f c ms).held.closed
   ready : is ≡ ready h number was (gathering h.gatherer f c ms).turn c'
 
 took : {h : Host} {row : List ℕ} {number : ℕ} {f c was : List ℕ} {r : Turned} {f' c' is : List ℕ} (ms : List Sample) → row_of row ≡ gives ms
-    → Turns h row number f c was r f' c' is → Took h ms number f c was r f' c' is
-unfolding mapped if_given
+    → Turns h row number f c was (Ok r) f' c' is → Took h ms number f c was r f' c' is
+unfolding outcome mapped if_given
 took ms e p = record {
-  answer = p.answer ∙ rw e;
-  host = p.host ∙ rw e;
-  words = p.words ∙ rw e;
+  answer = gives_one (p.answer ∙ rw e);
   filled = p.filled ∙ rw e;
   shown = p.shown ∙ rw e;
   ready = p.ready ∙ rw e;
 }
+
+-- samples that are fit are not refused
+never_refused : {h : Host} {row : List ℕ} {number : ℕ} {f c was f' c' is : List ℕ} {q : Refusal} (ms : List Sample) → row_of row ≡ gives ms
+    → Turns h row number f c was (Err q) f' c' is → ⊥
+unfolding outcome mapped
+never_refused {h} {row} {number} {f} {c} ms e p =
+    gives_refuses (sym (p.answer ∙ ap (mapped (λ (xs : List Sample). turned h (gathering h.gatherer f c xs))) e))
 
 module _ {h : Host} {ms : List Sample} {number : ℕ} {f c was f₁ c₁ is : List ℕ} {r : Turned} (t : Took h ms number f c was r f₁ c₁ is) where
   abbrev e : End
   e = gathering h.gatherer f c ms
 
   gatherer_is : r.host.gatherer ≡ record { count = e.held.count }
-  unfolding gathered
-  gatherer_is = ap (λ (x : Host). x.gatherer) t.host
+  unfolding turned gathered
+  gatherer_is = ap (λ (x : Turned). x.host.gatherer) t.answer
 
   serial_is : r.host.serial ≡ h.serial
-  unfolding gathered
-  serial_is = ap (λ (x : Host). x.serial) t.host
+  unfolding turned gathered
+  serial_is = ap (λ (x : Turned). x.host.serial) t.answer
+
+  words_is : r.words ≡ e.words
+  unfolding turned
+  words_is = ap (λ (x : Turned). x.words) t.answer
+
+  turn_is : r.turn ≡ e.turn
+  unfolding turned
+  turn_is = ap (λ (x : Turned). x.turn) t.answer
 
   -- as the gatherer's promise says it
-  gathers_open : e.turn ≡ none → Gathers (gives ms) h.gatherer f c (answer.Taken r.host.gatherer) f₁ c₁
-  unfolding gathered_by mapped if_given told_by
-  gathers_open n = record { answer = rw (gatherer_is, n); filled = t.filled; shown = t.shown }
-
-  gathers_closed : (n : ℕ) → e.turn ≡ some n → Gathers (gives ms) h.gatherer f c (answer.Closed r.host.gatherer n) f₁ c₁
-  unfolding gathered_by mapped if_given told_by
-  gathers_closed n k = record { answer = rw (gatherer_is, k); filled = t.filled; shown = t.shown }
+  gathers_told : Gathers told_by (gives ms) h.gatherer f c (Ok (record { gatherer = r.host.gatherer; turn = r.turn })) f₁ c₁
+  unfolding outcome mapped if_given told_by
+  gathers_told = record { answer = rw (gatherer_is, turn_is); filled = t.filled; shown = t.shown }
 
   -- no turn closed
-  call_open : {z : Host} {f₂ c₂ : List ℕ} {recs : List (List ℕ)} → e.turn ≡ none → Rowed r.host [] f₁ c₁ recs z f₂ c₂ → Rowed h ms f c (ready_by r.answer is ++ recs) z f₂ c₂
-  unfolding told_of ready_by
+  call_open : {z : Host} {f₂ c₂ : List ℕ} {recs : List (List ℕ)} → e.turn ≡ None → Rowed r.host [] f₁ c₁ recs z f₂ c₂ → Rowed h ms f c (ready_by r.turn is ++ recs) z f₂ c₂
+  unfolding ready_by
   call_open n w =
-      let a : r.answer ≡ told.Taken = told_one r.answer told.Taken (t.answer ∙ ap gives n) in
+      let a : r.turn ≡ None = turn_is ∙ n in
       rw a (record {
         turns = w.turns;
-        fed = λ rest later x. calls.taken ms refl (gathers_open n) (w.fed rest later x);
+        fed = λ rest later x. calls.taken ms refl (rw a at gathers_told) (w.fed rest later x);
         made = rw serial_is at w.made;
       })
 
   -- a turn of n samples closed
-  call_closed : {z : Host} {f₂ c₂ : List ℕ} {recs : List (List ℕ)} (n : ℕ) (front back : List Sample) → number < 4294967296 → length was ≡ 754 → e.turn ≡ some n → ms ≡ front ++ back → e.words ≡ 3 * length front → Rowed r.host back f₁ c₁ recs z f₂ c₂
-      → Rowed h ms f c (ready_by r.answer is ++ recs) z f₂ c₂
-  unfolding told_of ready_by Made ready record_for
+  call_closed : {z : Host} {f₂ c₂ : List ℕ} {recs : List (List ℕ)} (n : ℕ) (front back : List Sample) → number < 4294967296 → length was ≡ 754 → e.turn ≡ Some n → ms ≡ front ++ back → e.words ≡ 3 * length front → Rowed r.host back f₁ c₁ recs z f₂ c₂
+      → Rowed h ms f c (ready_by r.turn is ++ recs) z f₂ c₂
+  unfolding ready_by Made ready record_for
   call_closed n front back small room k i j w =
-      let a : r.answer ≡ told.Closed n = told_one r.answer (told.Closed n) (t.answer ∙ ap gives k) in
+      let a : r.turn ≡ Some n = turn_is ∙ k in
       let one : is ≡ if_given (record_of (record { number = number; count = n; serial = h.serial; cells = c₁ })) (overwritten was) was = t.ready ∙ rw k in
       rw a (record {
         turns = record { count = n; cells = c₁ } ∷ w.turns;
         fed = λ rest later x.
             calls.closed front back rest (ap (λ (l : List Sample). l ++ rest) i ∙ append_assoc front back rest)
-            (rw i at (gathers_closed n k))
+            (rw i at (rw a at gathers_told))
             (rw i at j)
             (w.fed rest later x);
         made = ((number, was, small, room, one), rw serial_is at w.made);
@@ -203,19 +209,20 @@ pub row_fed : {h z : Host} {row f c f' c' : List ℕ} {recs : List (List ℕ)} �
     → Rowed h ms f c recs z f' c'
 unfolding Made gathering all_fit
 row_fed (done {h} {f} {c}) ms e i = rw (no_words ms i) (record { turns = []; fed = λ rest later x. x; made = tt })
+row_fed (refused {h} {z} {row} {f} {c} number was is q p d) ms e i = absurd (never_refused ms (ap row_of i ∙ row_of_lem ms e) p)
 row_fed (more {h} {z} {row} {f} {c} {f₁} {c₁} {f₂} {c₂} {recs} number was is r small room p d) ms e i =
     by (took ms (ap row_of i ∙ row_of_lem ms e) p) (split (record { count = count_in h.gatherer; filling = f; closed = c }) 0 ms) (gathering h.gatherer f c ms).turn refl (λ back b j. row_fed d back b j)
   where
     left : (t : Took h ms number f c was r f₁ c₁ is) (s : Split (record { count = count_in h.gatherer; filling = f; closed = c }) 0 ms) → drop r.words row ≡ flat_map words_of s.back
     left t s =
-        let w : r.words ≡ 3 * length s.front = t.words ∙ s.words ∙ omega arith in
+        let w : r.words ≡ 3 * length s.front = words_is t ∙ s.words ∙ omega arith in
         rw (w, i) (ap (λ (l : List Sample). drop (3 * length s.front) (flat_map words_of l)) s.is ∙ drop_words s.front s.back)
 
     by : (t : Took h ms number f c was r f₁ c₁ is) (s : Split (record { count = count_in h.gatherer; filling = f; closed = c }) 0 ms) (o : Option ℕ) → (gathering h.gatherer f c ms).turn ≡ o
         → ((back : List Sample) → all_fit back ≡ true → drop r.words row ≡ flat_map words_of back → Rowed r.host back f₁ c₁ recs z f₂ c₂)
-        → Rowed h ms f c (ready_by r.answer is ++ recs) z f₂ c₂
-    by t s none k on =
+        → Rowed h ms f c (ready_by r.turn is ++ recs) z f₂ c₂
+    by t s None k on =
         let b = s.all k in
         call_open t k (on [] refl (left t s ∙ ap (flat_map words_of) b))
-    by t s (some n) k on =
+    by t s (Some n) k on =
         call_closed t n s.front s.back small room k s.is (s.words ∙ omega arith) (on s.back (fit_back s.front s.back (rw s.is at e)) (left t s))
