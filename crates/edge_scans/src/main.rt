@@ -2,19 +2,21 @@
 // order, bytes skipped and held, and whether the other readings came to the same.
 #![tactic(auto)]
 
-ghost use Rattle.std.specs.Prelude.{◌+◌, ◌<◌, ◌≤◌, length};
-ghost use Rattle.io.specs.Counts.{IsPrefixLen};
+ghost use Rattle.std.specs.Prelude.{◌<◌, ◌≤◌, length};
 
 use std::fs::File;
 use std::io::{Cursor, Error, Write};
 use std::os::fd::AsRawFd;
-use stream::{Reader, Stop};
+use stream::{Reader, Reading, Stop};
 use wire::request::Request;
 
 // The descriptors of standard output and standard error.
 const STDOUT_FILENO: i32 = 1;
 
 const STDERR_FILENO: i32 = 2;
+
+// The most words that a reading is lent.
+const ROOM: usize = 3072;
 
 // A sum of what was given, and the sum of these sums, which tells another order from the same.
 #[derive(Clone, Copy)]
@@ -23,6 +25,50 @@ struct Digest {
     sums: u64,
 }
 
+impl Digest {
+    fn with(self, n: u64) -> Digest {
+        let sum = self.sum.wrapping_add(n);
+        Digest {
+            sum,
+            sums: self.sums.wrapping_add(sum),
+        }
+    }
+
+    fn with_each<T: Copy + Into<u64>>(self, given: &[T]) -> Digest {
+        given
+            .iter()
+            .fold(self, |digest, n| digest.with((*n).into()))
+    }
+
+    // A stop with its number, past those of the words, and its twenty bytes.
+    fn with_stop(self, stop: Stop, reply: &[u8; 20]) -> Digest {
+        match stop {
+            Stop::AllTaken | Stop::NoRoom => self,
+            _ => self.with(65536 + stop as u64).with_each(reply),
+        }
+    }
+}
+
+// What a reading came to.
+#[derive(Clone, Copy, PartialEq, Eq)]
+struct Given {
+    words: u64,
+    digest: u64,
+    skipped: u32,
+    held: u8,
+}
+
+// One call of a reader, which takes some of the bytes.
+fn call(reader: Reader, input: &[u8], words: &mut [u16]) -> Reading
+    requires input_some { 0 < length input.now }
+    requires words_room { 3 ≤ length words.old }
+    ensures taken { (0 < result.taken) × (result.taken ≤ length input.now) }
+    ensures words { result.words ≤ length words.new }
+{
+    reader.read(input, words)
+}
+
+// A reading: where its reader stands, and the words and the digest of what it gave so far.
 #[derive(Clone, Copy)]
 struct Tally {
     reader: Reader,
@@ -30,152 +76,50 @@ struct Tally {
     digest: Digest,
 }
 
-#[derive(Clone, Copy)]
-struct Step {
-    tally: Tally,
-    taken: usize,
-}
-
-fn mixed(d: Digest, n: u64) -> Digest {
-    let sum = std::num::wrapping_add_u64(d.sum, n);
-    Digest {
-        sum,
-        sums: std::num::wrapping_add_u64(d.sums, sum),
-    }
-}
-
-fn wide(n: u16) -> u64 {
-    n as u64
-}
-
-fn wide_byte(n: u8) -> u64 {
-    n as u64
-}
-
-fn mix_row(d: Digest, row: &[u16]) -> Digest {
-    let mut next = d;
-    let mut i: usize = 0;
-    while i < row.len() {
-        next = mixed(next, wide(row[i]));
-        i += 1;
-    }
-    next
-}
-
-fn mix_reply(d: Digest, reply: &[u8]) -> Digest {
-    let mut next = d;
-    let mut i: usize = 0;
-    while i < reply.len() {
-        next = mixed(next, wide_byte(reply[i]));
-        i += 1;
-    }
-    next
-}
-
-// A stop with its number, past those of the words, and its twenty bytes.
-fn mix_stop(d: Digest, stop: Stop, reply: &[u8; 20]) -> Digest {
-    let bytes: &[u8] = reply;
-    match stop {
-        Stop::AllTaken => d,
-        Stop::NoRoom => d,
-        Stop::Descriptor => mix_reply(mixed(d, 65538), bytes),
-        Stop::Reply => mix_reply(mixed(d, 65539), bytes),
-        Stop::BadHealth => mix_reply(mixed(d, 65540), bytes),
-    }
-}
-
-fn least(a: usize, b: usize) -> usize
-    ensures { result ≤ b }
-{
-    if a < b { a } else { b }
-}
-
-fn front(n: usize, words: &[u16]) -> usize
-    ensures { IsPrefixLen result words.now }
-{
-    if n < words.len() { n } else { words.len() }
-}
-
-// Where the piece of so many bytes ends in which a place stands.
-fn piece_end(at: usize, cut: usize, size: usize) -> usize
-    requires at_lt_size { at < size }
-    requires le_cut { 1 ≤ cut }
-    ensures { (at ≤ result) × (result ≤ size) }
-{
-    let left = cut - at % cut;
-    if left < size - at { at + left } else { size }
-}
-
-// One call, from a place to the end of its piece.
-fn call(t: Tally, input: &[u8], at: usize, end: usize, words: &mut [u16]) -> Step
-    requires at_le_end { at ≤ end }
-    requires end_in_bounds { end ≤ length input.now }
-    ensures { at + result.taken ≤ length input.now }
-{
-    let reader = t.reader;
-    let r = reader.read(&input[at..end], words);
-    let n = front(r.words, words);
-    let row = mix_row(t.digest, &words[..n]);
-    let stop = r.stop;
-    let reply = r.reply;
-    let digest = mix_stop(row, stop, &reply);
-    let after = r.reader;
-    let taken = least(r.taken, end - at);
-    Step {
-        tally: Tally {
-            reader: after,
-            words: std::num::wrapping_add_u64(t.words, n as u64),
-            digest,
-        },
-        taken,
-    }
-}
-
-// All the input.
-fn read_all(t: Tally, input: &[u8], cut: usize, words: &mut [u16]) -> Tally
-    requires { 1 ≤ cut }
-{
-    let mut next = t;
-    let mut at: usize = 0;
-    while at < input.len() {
-        let end = piece_end(at, cut, input.len());
-        let s = call(next, input, at, end, words);
-        next = s.tally;
-        if s.taken == 0 {
-            return next;
+impl Tally {
+    fn new(request: Request) -> Tally {
+        let fresh = Reader::new();
+        Tally {
+            reader: fresh.tell(request).unwrap_or(fresh),
+            words: 0,
+            digest: Digest { sum: 0, sums: 0 },
         }
-        at += s.taken;
     }
-    next
-}
 
-fn run(request: Request, input: &[u8], cut: usize, words: &mut [u16]) -> Tally
-    requires { 1 ≤ cut }
-{
-    let told = Reader::new().tell(request);
-    let reader = told.reader;
-    let begun = Tally {
-        reader,
-        words: 0,
-        digest: Digest { sum: 0, sums: 0 },
-    };
-    read_all(begun, input, cut, words)
-}
+    // After a call that gave these words.
+    fn after(self, reading: Reading, words: &[u16]) -> Tally {
+        Tally {
+            reader: reading.reader,
+            words: self.words.wrapping_add(words.len() as u64),
+            digest: self
+                .digest
+                .with_each(words)
+                .with_stop(reading.stop, &reading.reply),
+        }
+    }
 
-fn run_front(request: Request, input: &[u8], cut: usize, words: &mut [u16], room: usize) -> Tally
-    requires le_cut { 1 ≤ cut }
-    requires room_in_bounds { room ≤ length words.old }
-{
-    run(request, input, cut, &mut words[..room])
-}
+    // A piece, by as many calls as it takes.
+    fn read(self, piece: &[u8], words: &mut [u16]) -> Tally
+        requires { 3 ≤ length words.old }
+    {
+        let mut tally = self;
+        let mut rest = piece;
+        while !rest.is_empty() {
+            let reading = call(tally.reader, rest, words);
+            tally = tally.after(reading, &words[..reading.words]);
+            rest = &rest[reading.taken..];
+        }
+        tally
+    }
 
-// In pieces of `cut` bytes, with `room` words.
-fn run_at(request: Request, input: &[u8], cut: usize, room: usize) -> Tally
-    requires le_cut { 1 ≤ cut }
-    requires room_bound { room ≤ 3072 }
-{
-    let mut words = [0u16; 3072];
-    run_front(request, input, cut, &mut words, room)
+    fn given(self) -> Given {
+        Given {
+            words: self.words,
+            digest: self.digest.sums,
+            skipped: self.reader.skipped,
+            held: self.reader.n,
+        }
+    }
 }
 
 fn print(label: &[u8], n: u64) {
@@ -183,82 +127,87 @@ fn print(label: &[u8], n: u64) {
     io::print_decimal(STDOUT_FILENO, n);
 }
 
-// A reading beside the first one.
-fn compare(one: Tally, other: Tally) {
-    let a = one.reader;
-    let b = other.reader;
-    let d = one.digest;
-    let e = other.digest;
-    if one.words == other.words && d.sums == e.sums && a.skipped == b.skipped && a.n == b.n {
-        io::write_all(STDOUT_FILENO, b" same");
-    } else {
-        io::write_all(STDOUT_FILENO, b" differs");
+// A capture, as the answer to a request.
+#[derive(Clone, Copy)]
+struct Capture<'a> {
+    name: &'a [u8],
+    request: Request,
+    bytes: &'a [u8],
+}
+
+impl Capture<'_> {
+    // Read in pieces of `cut` bytes, with `room` words.
+    fn given(self, cut: usize, room: usize) -> Given
+        requires cut_bound { 1 ≤ cut }
+        requires room_bound { (3 ≤ room) × (room ≤ 3072) }
+    {
+        let mut words = [0u16; ROOM];
+        let mut tally = Tally::new(self.request);
+        for piece in self.bytes.chunks(cut) {
+            tally = tally.read(piece, &mut words[..room]);
+        }
+        tally.given()
+    }
+
+    fn show(self) {
+        let whole = self.given(4096, ROOM);
+        io::write_all(STDOUT_FILENO, self.name);
+        print(b" words ", whole.words);
+        print(b" digest ", whole.digest);
+        print(b" skipped ", u64::from(whole.skipped));
+        print(b" held ", u64::from(whole.held));
+        for (cut, room) in [(1, 3), (7, 5), (64, 48)] {
+            let is_same = self.given(cut, room) == whole;
+            let word: &[u8] = if is_same { b" same" } else { b" differs" };
+            io::write_all(STDOUT_FILENO, word);
+        }
+        io::write_all(STDOUT_FILENO, b"\n");
     }
 }
 
-// A capture as the answer to a request.
-fn show(name: &[u8], request: Request, input: &[u8]) {
-    let whole = run_at(request, input, 4096, 3072);
-    let reader = whole.reader;
-    let digest = whole.digest;
-    io::write_all(STDOUT_FILENO, name);
-    print(b" words ", whole.words);
-    print(b" digest ", digest.sums);
-    print(b" skipped ", reader.skipped as u64);
-    print(b" held ", reader.n as u64);
-    compare(whole, run_at(request, input, 1, 3));
-    compare(whole, run_at(request, input, 7, 5));
-    compare(whole, run_at(request, input, 64, 48));
-    io::write_all(STDOUT_FILENO, b"\n");
-}
-
-// Where the words of an error's text end: its number stands behind them in brackets, or zeros.
-fn words_end(text: &[u8]) -> usize
-    ensures { IsPrefixLen result text.now }
-{
-    for (i, b) in text.iter().enumerate() {
-        if *b == b'(' {
-            return i.saturating_sub(1);
-        }
-        if *b == 0 {
-            return i;
-        }
-    }
-    text.len()
+// The words of an error's text: its number stands behind them in brackets, or zeros.
+fn words(text: &[u8]) -> &[u8] {
+    let mut parts = text.split(|b| matches!(*b, b'(' | 0));
+    parts.next().unwrap_or(&[]).trim_ascii_end()
 }
 
 // A file that cannot be opened, and why by the system's own words.
 fn say_unopened(name: &str, why: Error) {
     let mut to = Cursor::new([0u8; 256]);
     let _ = write!(to, "{why}");
-    let text = to.into_inner();
-    let n = words_end(&text);
-    io::write_all(STDERR_FILENO, name.as_bytes());
-    io::write_all(STDERR_FILENO, b": ");
-    io::write_all(STDERR_FILENO, &text[..n]);
-    io::write_all(STDERR_FILENO, b"\n");
+    for part in [name.as_bytes(), b": ", words(&to.into_inner()), b"\n"] {
+        io::write_all(STDERR_FILENO, part);
+    }
 }
 
 // The capture in a file.
 fn show_file(rt: &HostRuntime, name: &str, request: Request) {
-    let mut input = [0u8; 4096];
-    let file = match File::open(rt, name) {
-        Ok(file) => file,
-        Err(why) => {
-            say_unopened(name, why);
-            return;
+    match File::open(rt, name) {
+        Ok(file) => {
+            let mut input = [0u8; 4096];
+            let n = io::read_full(file.as_raw_fd(), &mut input);
+            let capture = Capture {
+                name: name.as_bytes(),
+                request,
+                bytes: &input[..n],
+            };
+            capture.show();
         }
-    };
-    let n = io::read_full(file.as_raw_fd(), &mut input);
-    show(name.as_bytes(), request, &input[..n]);
+        Err(why) => say_unopened(name, why),
+    }
 }
 
 fn main(rt: HostRuntime) {
-    show_file(&rt, "clean.bin", Request::scan());
-    show_file(&rt, "damaged.bin", Request::scan());
-    show_file(&rt, "noise.bin", Request::force_scan());
-    show_file(&rt, "replies.bin", Request::get_info());
-    show_file(&rt, "replies.bin", Request::get_health());
-    show_file(&rt, "replies.bin", Request::scan());
-    show_file(&rt, "bad_health.bin", Request::get_health());
+    let captures = [
+        ("clean.bin", Request::scan()),
+        ("damaged.bin", Request::scan()),
+        ("noise.bin", Request::force_scan()),
+        ("replies.bin", Request::get_info()),
+        ("replies.bin", Request::get_health()),
+        ("replies.bin", Request::scan()),
+        ("bad_health.bin", Request::get_health()),
+    ];
+    for (name, request) in captures {
+        show_file(&rt, name, request);
+    }
 }
