@@ -73,7 +73,7 @@ impl Program<'_> {
     }
 }
 
-// Reads until the buffer is full, the input ends or a read fails, and answers how many bytes came.
+// Reads until the buffer is full, the input ends or a read fails, and answers how many bytes came. (`read_exact` takes the input's end for an error.)
 pub fn read_whole<R: Read>(from: &mut R, buffer: &mut [u8]) -> Result<usize, Broken>
     ensures { MatchResult result (λ n. IsPrefixLen n buffer.new) (λ e. IsPrefixLen e.bytes buffer.new) }
 {

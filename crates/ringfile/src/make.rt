@@ -16,7 +16,7 @@ const TRIES: u64 = 1000;
 // The system's number of the error where all of them are taken: its words are printed.
 const EEXIST: i32 = 17;
 
-// Makes a file under a name that nobody has, which is put.
+// Makes a file under a name that nobody has, and puts that name.
 fn create(rt: &HostRuntime, path: &[u8], name: &mut Text<'_>) -> std::io::Result<File> {
     for k in 0..TRIES {
         put_new_name(path, k, name);
@@ -58,7 +58,7 @@ impl RingFile<'_> {
         self.or_say(rename(rt, name, self.path))
     }
 
-    // A new file, which gets the ring's name. Where that cannot be, nothing is left of it.
+    // A new file that gets the ring's name, or of which nothing is left.
     fn make_new(self) -> Result<(), Said> {
         let rt = self.program.rt;
         let mut bytes = io::buffer();
@@ -74,7 +74,7 @@ impl RingFile<'_> {
         done
     }
 
-    // A file of an empty ring.
+    // A file of an empty ring, whose name is on the disk.
     pub(crate) fn make(self) -> Result<(), Said> {
         let rt = self.program.rt;
         if is_link(rt, self.path) {

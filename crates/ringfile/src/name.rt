@@ -18,11 +18,9 @@ fn ended(path: &[u8]) -> [u8; PATH_MAX]
     ensures { Ended result }
 {
     let mut name = io::buffer();
-    Text {
-        bytes: &mut name,
-        end: 0,
+    if let Some(room) = name.get_mut(..path.len()) {
+        room.copy_from_slice(path);
     }
-    .bytes(path);
     name[LAST] = 0;
     name
 }
