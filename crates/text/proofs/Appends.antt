@@ -1,4 +1,4 @@
--- Pieces of text behind each other. To know: `append_more` (a piece, and one behind it), `append_is` (a piece said in another way).
+-- Pieces of text behind each other: `append_start` (none), `append_more` (a piece, and one behind it).
 use Prim.Native.Nat.{ℕ, ◌+◌}
 use mathlib.Core.Path.{◌≡◌, refl, ap, ◌∙◌}
 use mathlib.Core.List.{List, [], ◌++◌, append_assoc, append-nil}
@@ -18,9 +18,6 @@ append_more {was} {mid} {is} {xs} {ys} {from} {next} p q =
   where
     further : (n : ℕ) {r : ℕ} → drop n mid ≡ drop n was → r ≡ n + length ys → drop r mid ≡ drop r was
     further n e l = rw (l, ← drop-drop (length ys) n mid, ← drop-drop (length ys) n was, e)
-
-pub append_is : {was is xs ys : List ℕ} {from r : ℕ} → Appends was from xs r is → xs ≡ ys → Appends was from ys r is
-append_is p e = rw e at p
 
 pub append_start : (was : List ℕ) (from : ℕ) → Appends was from [] from was
 append_start was from = record { end = omega arith; size = refl; front = rw append-nil; behind = refl }
