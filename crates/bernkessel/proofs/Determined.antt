@@ -16,7 +16,7 @@ use Rattle.device.proofs.Determined.{
   setting_determined,
 }
 use Rattle.stream.proofs.Determined.{made_determined, tells_determined, reads_determined}
-use Rattle.turn.proofs.Determined.{fresh_determined, gathers_determined, row_determined}
+use Rattle.turn.proofs.Determined.{fresh_determined, gathers_determined}
 use Rattle.record.proofs.Determined.{check_determined, number_determined, count_determined, cell_determined}
 use Rattle.ring.proofs.Determined.{
   held_determined,
@@ -228,7 +228,7 @@ gatherer_sample_determined g m p q = let d = gathers_determined p.kept q.kept in
 
 pub gatherer_row_determined : (g : BkGatherer) (ws : List ℕ) {f c f₁ f₂ c₁ c₂ : List ℕ} {r s : BkRowGathered}
     → RowIsGathered g ws f c r f₁ c₁ → RowIsGathered g ws f c s f₂ c₂ → (r ≡ s) × (f₁ ≡ f₂) × (c₁ ≡ c₂)
-gatherer_row_determined g ws p q = let d = row_determined p.kept q.kept in (form_one p q d.0, d.1, d.2)
+gatherer_row_determined g ws p q = let d = gathers_determined p.kept q.kept in (form_one p q d.0, d.1, d.2)
 
 -- ---- records
 
@@ -270,7 +270,7 @@ same_part r s a b c =
 
 pub ring_turn_determined : {mem : List ℕ} {i : ℕ} {r s : BkPart} → RingTurn mem i r → RingTurn mem i s → r ≡ s
 ring_turn_determined {r = r} {s = s} p q =
-    same_part r s (start_determined p.offset q.offset) (form_one p.size q.size (turn_determined p.size.kept q.size.kept))
+    same_part r s (form_one p.offset q.offset (start_determined p.offset.kept q.offset.kept)) (form_one p.size q.size (turn_determined p.size.kept q.size.kept))
     (form_one p.refusal q.refusal (refusal_determined p.refusal.kept q.refusal.kept))
 
 pub ring_all_read_determined : {mem : List ℕ} {r s : ℕ} → RingReads mem r → RingReads mem s → r ≡ s

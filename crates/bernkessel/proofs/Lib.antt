@@ -1,3 +1,4 @@
+pub mod Blanks
 pub mod Determined
 pub mod Back
 pub mod Meant

@@ -1,11 +1,11 @@
 -- The C form of a collector and of what it answers.
-use Rattle.std.specs.Prelude.{cond, eqb}
+use Rattle.std.specs.Prelude.{cond, eqb, Result, Ok, Err, Option, Some, None}
 use Rattle.paper.specs.Refusals.{number_of}
+use Rattle.paper.specs.declared.refusal.Refusal.{Refusal}
 use Rattle.device.specs.declared.collector.Stage.{Stage}
 use Rattle.device.specs.declared.collector.Stage.TheVariants.{Empty, Started, Coded, Sized}
 use Rattle.device.specs.declared.collector.Collector.{Collector}
-use Rattle.device.specs.declared.collector.Completed.{Completed}
-use Rattle.device.specs.declared.collector.Completed.TheVariants as completed
+use Rattle.device.specs.declared.collector.Packet.{Packet}
 use Rattle.device.specs.declared.collector.Collected.{Collected}
 use Rattle.bernkessel.specs.declared.collector.BkStage.{BkStage}
 use Rattle.bernkessel.specs.declared.collector.BkCollector.{BkCollector}
@@ -32,11 +32,12 @@ collector_in c = record { stage = stage_in c.stage; begun = c.begun; last = c.la
 unfoldable pub collector_out : Collector → BkCollector
 collector_out s = record { stage = stage_out s.stage; begun = s.begun; last = s.last }
 
--- a refusal gives back the very collector
-unfoldable pub collected_by : Completed → BkCollector → Collector → BkCollected
-collected_by completed.Nothing was s = record { collector = collector_out s; complete = 0; code = 0; size = 0; refusal = 0 }
-collected_by (completed.Packet q n) was s = record { collector = collector_out s; complete = 1; code = q.0; size = n; refusal = 0 }
-collected_by (completed.Refused q) was s = record { collector = was; complete = 0; code = 0; size = 0; refusal = number_of q }
+-- the collector behind a byte, and the packet that the byte completed
+unfoldable pub packet_out : Option Packet → BkCollector → BkCollected
+packet_out None c = record { collector = c; complete = 0; code = 0; size = 0; refusal = 0 }
+packet_out (Some p) c = record { collector = c; complete = 1; code = p.request.0; size = p.size; refusal = 0 }
 
-unfoldable pub collected_out : BkCollector → Collected → BkCollected
-collected_out was r = collected_by r.answer was r.collector
+-- a refusal gives back the very collector
+unfoldable pub collected_out : BkCollector → Result Collected Refusal → BkCollected
+collected_out was (Ok r) = packet_out r.packet (collector_out r.collector)
+collected_out was (Err q) = record { collector = was; complete = 0; code = 0; size = 0; refusal = number_of q }

@@ -1,15 +1,11 @@
 -- The C form of the scanner's model and of what it answers.
-use Rattle.std.specs.Prelude.{ℕ, cond, eqb}
+use Rattle.std.specs.Prelude.{ℕ, cond, eqb, Result, Ok, Err}
 use Rattle.paper.specs.Refusals.{number_of}
-use Rattle.paper.specs.declared.refusal.Answer.{Answer}
-use Rattle.paper.specs.declared.refusal.Answer.TheVariants as answer
-use Rattle.paper.specs.declared.refusal.Written.{Written}
-use Rattle.paper.specs.declared.refusal.Written.TheVariants as writing
+use Rattle.paper.specs.declared.refusal.Refusal.{Refusal}
 use Rattle.device.specs.declared.model.State.{State}
 use Rattle.device.specs.declared.model.State.TheVariants.{Idle, Scanning, ForceScanning, ProtectionStop}
 use Rattle.device.specs.declared.model.Model.{Model}
 use Rattle.device.specs.declared.model.Asked.{Asked}
-use Rattle.device.specs.declared.model.HealthSet.{HealthSet}
 use Rattle.bernkessel.specs.Answers.{flag_in, flag_out}
 use Rattle.bernkessel.specs.Reply.{info_in, info_out}
 use Rattle.bernkessel.specs.declared.model.BkModel.{BkModel}
@@ -38,16 +34,10 @@ unfoldable pub model_out : Model → BkModel
 model_out m = record { info = info_out m.info; error = m.error; state = state_out m.state; stable = flag_out m.stable; warning = flag_out m.warning }
 
 -- a refusal gives back the very model
-unfoldable pub asked_by : Written → BkModel → Model → BkAsked
-asked_by (writing.Bytes n) was m = record { model = model_out m; written = record { bytes = n; refusal = 0 } }
-asked_by (writing.Refused q) was m = record { model = was; written = record { bytes = 0; refusal = number_of q } }
+unfoldable pub asked_out : BkModel → Result Asked Refusal → BkAsked
+asked_out was (Ok r) = record { model = model_out r.model; written = record { bytes = r.bytes; refusal = 0 } }
+asked_out was (Err q) = record { model = was; written = record { bytes = 0; refusal = number_of q } }
 
-unfoldable pub asked_out : BkModel → Asked → BkAsked
-asked_out was r = asked_by r.answer was r.model
-
-unfoldable pub health_set_by : Answer → BkModel → Model → BkHealthSet
-health_set_by answer.Done was m = record { model = model_out m; refusal = 0 }
-health_set_by (answer.Refused q) was m = record { model = was; refusal = number_of q }
-
-unfoldable pub health_set_out : BkModel → HealthSet → BkHealthSet
-health_set_out was r = health_set_by r.answer was r.model
+unfoldable pub health_set_out : BkModel → Result Model Refusal → BkHealthSet
+health_set_out was (Ok m) = record { model = model_out m; refusal = 0 }
+health_set_out was (Err q) = record { model = was; refusal = number_of q }

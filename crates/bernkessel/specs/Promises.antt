@@ -1,5 +1,6 @@
 -- What each function of C promises: the C form of an answer that the library's promise allows, and lent memory as that promise has it.
 use Rattle.std.specs.Prelude.{ℕ, List, length}
+use Rattle.std.specs.Result.{result_unwrap_or}
 use Rattle.paper.specs.Outcome.{mapped}
 use Rattle.paper.specs.Writing.{Writes}
 use Rattle.wire.specs.Request.{request_of}
@@ -12,8 +13,8 @@ use Rattle.device.specs.Model.{sample_sent}
 use Rattle.device.specs.Promises.{FreshCollector, ByteCollected, FreshModel, Asking, InAnother, MotorSet, ErrorSet, HealthSetting}
 use Rattle.device.specs.declared.model.State.TheVariants.{ProtectionStop}
 use Rattle.stream.specs.Promises.{Made, Tells, Reads}
-use Rattle.turn.specs.Gather.{one_of, row_of}
-use Rattle.turn.specs.Promises.{Fresh, Gathers, GathersRow}
+use Rattle.turn.specs.Gather.{one_of, row_of, told_by, row_told_by}
+use Rattle.turn.specs.Promises.{Fresh, Gathers}
 use Rattle.record.specs.Record.{Turn, record_of, turn_of}
 use Rattle.record.specs.Promises.{Checked, NumberGiven, CountGiven, CellGiven}
 use Rattle.ring.specs.Ring.{slots}
@@ -189,11 +190,11 @@ GathererFresh r = Form Fresh gatherer_out r
 
 -- `bk_gatherer_sample`
 abbrev pub SampleGathered : BkGatherer → BkSample → List ℕ → List ℕ → BkGathered → List ℕ → List ℕ → Type 0
-SampleGathered s m f c r f' c' = Form (λ a. Gathers (one_of (sample_in m)) (gatherer_in s) f c a f' c') (gathered_out s) r
+SampleGathered s m f c r f' c' = Form (λ a. Gathers told_by (one_of (sample_in m)) (gatherer_in s) f c a f' c') (gathered_out s) r
 
 -- `bk_gatherer_row`
 abbrev pub RowIsGathered : BkGatherer → List ℕ → List ℕ → List ℕ → BkRowGathered → List ℕ → List ℕ → Type 0
-RowIsGathered s ws f c r f' c' = Form (λ a. GathersRow (row_of ws) (gatherer_in s) f c a f' c') (row_out s) r
+RowIsGathered s ws f c r f' c' = Form (λ a. Gathers row_told_by (row_of ws) (gatherer_in s) f c a f' c') (row_out s) r
 
 -- ---- records
 
@@ -238,7 +239,7 @@ RingAdded was rec r is = Form (λ a. AddGiven slots was rec a is) answer_out r
 
 -- `bk_ring_turn`: no part can be handed over, so it is told where the part begins and how long it is
 pub record RingTurn (mem : List ℕ) (i : ℕ) (r : BkPart) : Type 0 where
-  pub offset : TurnStartGiven slots mem i r.offset
+  pub offset : Form (TurnStartGiven slots mem i) (λ a. result_unwrap_or a 0) r.offset
   pub size : Form (TurnGiven slots mem i) length r.length
   pub refusal : Form (TurnRefusalGiven slots mem i) answer_out r.refusal
 

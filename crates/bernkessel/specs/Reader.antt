@@ -1,14 +1,12 @@
 -- The C form of a reader and of what it answers.
-use Rattle.std.specs.Prelude.{ℕ, cond, eqb}
+use Rattle.std.specs.Prelude.{ℕ, cond, eqb, Result, Ok, Err}
 use Rattle.paper.specs.Refusals.{number_of}
-use Rattle.paper.specs.declared.refusal.Answer.{Answer}
-use Rattle.paper.specs.declared.refusal.Answer.TheVariants as answer
+use Rattle.paper.specs.declared.refusal.Refusal.{Refusal}
 use Rattle.stream.specs.Stops.{stop_number}
 use Rattle.stream.specs.declared.Phase.{Phase}
 use Rattle.stream.specs.declared.Phase.TheVariants.{Idle, SeekInfo, SeekHealth, SeekScan, InfoReply, HealthReply, Scanning}
 use Rattle.stream.specs.declared.Reader.{Reader}
 use Rattle.stream.specs.declared.Reading.{Reading}
-use Rattle.stream.specs.declared.Told.{Told}
 use Rattle.bernkessel.specs.declared.reader.BkReader.{BkReader}
 use Rattle.bernkessel.specs.declared.reader.BkTold.{BkTold}
 use Rattle.bernkessel.specs.declared.reader.BkReading.{BkReading}
@@ -41,12 +39,9 @@ unfoldable pub reader_out : Reader → BkReader
 reader_out r = record { phase = phase_out r.phase; n = r.n; held = r.held; skipped = r.skipped }
 
 -- a refused telling gives back the very reader
-unfoldable pub told_by : Answer → BkReader → Reader → BkTold
-told_by answer.Done was r = record { reader = reader_out r; refusal = 0 }
-told_by (answer.Refused q) was r = record { reader = was; refusal = number_of q }
-
-unfoldable pub told_out : BkReader → Told → BkTold
-told_out was r = told_by r.answer was r.reader
+unfoldable pub told_out : BkReader → Result Reader Refusal → BkTold
+told_out was (Ok r) = record { reader = reader_out r; refusal = 0 }
+told_out was (Err q) = record { reader = was; refusal = number_of q }
 
 unfoldable pub reading_out : Reading → BkReading
 reading_out r = record { reader = reader_out r.reader; taken = r.taken; words = r.words; stop = stop_number r.stop; reply = r.reply }

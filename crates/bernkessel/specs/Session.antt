@@ -1,8 +1,7 @@
 -- The C form of a session and of what it answers.
-use Rattle.std.specs.Prelude.{ℕ, cond, eqb}
+use Rattle.std.specs.Prelude.{ℕ, cond, eqb, Result, Ok, Err}
 use Rattle.paper.specs.Refusals.{number_of}
-use Rattle.paper.specs.declared.refusal.Written.{Written}
-use Rattle.paper.specs.declared.refusal.Written.TheVariants as writing
+use Rattle.paper.specs.declared.refusal.Refusal.{Refusal}
 use Rattle.session.specs.declared.Awaited.{Awaited}
 use Rattle.session.specs.declared.Awaited.TheVariants.{Nothing, Reply}
 use Rattle.session.specs.declared.Session.{Session}
@@ -25,9 +24,6 @@ unfoldable pub session_out : Session → BkSession
 session_out s = record { last = s.last; wait = s.wait; awaited = awaited_out s.awaited }
 
 -- a refusal gives back the very session
-unfoldable pub sent_by : Written → BkSession → Session → BkSent
-sent_by (writing.Bytes n) was s = record { session = session_out s; written = record { bytes = n; refusal = 0 } }
-sent_by (writing.Refused q) was s = record { session = was; written = record { bytes = 0; refusal = number_of q } }
-
-unfoldable pub sent_out : BkSession → Sent → BkSent
-sent_out was r = sent_by r.answer was r.session
+unfoldable pub sent_out : BkSession → Result Sent Refusal → BkSent
+sent_out was (Ok r) = record { session = session_out r.session; written = record { bytes = r.bytes; refusal = 0 } }
+sent_out was (Err q) = record { session = was; written = record { bytes = 0; refusal = number_of q } }

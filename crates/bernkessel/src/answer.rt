@@ -1,8 +1,8 @@
 // The C form of the answers that the crates share: 0 for none, or the number of the refusal.
 ghost use Rattle.std.specs.Prelude.{◌≡◌};
-ghost use Rattle.bernkessel.specs.Answers.{answer_out, written_out, flag_out};
+ghost use Rattle.bernkessel.specs.Answers.{split, answer_out, written_out};
 
-use paper::refusal::{Answer, Written};
+use paper::refusal::Refusal;
 
 #[repr(C)]
 #[derive(Clone, Copy)]
@@ -11,32 +11,30 @@ pub struct BkWritten {
     pub refusal: u8,
 }
 
-#[tactic(auto, unfolding(crate::specs::Answers::answer_out))]
-pub(crate) fn answer_out(answer: Answer) -> u8
-    ensures { result ≡ answer_out answer }
+// The value and 0, or what stands beside a refusal and the refusal's number.
+#[tactic(auto, unfolding(crate::specs::Answers::split))]
+pub(crate) fn split<T: Drop>(answer: Result<T, Refusal>, blank: T) -> (T, u8)
+    ensures { result ≡ split answer blank }
 {
     match answer {
-        Answer::Done => 0,
-        Answer::Refused(q) => q.number(),
+        Ok(value) => (value, 0),
+        Err(q) => (blank, q.number()),
     }
 }
 
-#[tactic(auto, unfolding(crate::specs::Answers::written_out))]
-pub(crate) fn written_out(written: Written) -> BkWritten
-    ensures { result ≡ written_out written }
+#[tactic(auto, unfolding(crate::specs::Answers::answer_out, crate::specs::Answers::split))]
+pub(crate) fn answer_out(answer: Result<(), Refusal>) -> u8
+    ensures { result ≡ answer_out answer }
 {
-    match written {
-        Written::Bytes(bytes) => BkWritten { bytes, refusal: 0 },
-        Written::Refused(q) => BkWritten {
-            bytes: 0,
-            refusal: q.number(),
-        },
-    }
+    split(answer, ()).1
 }
 
-#[tactic(auto, unfolding(crate::specs::Answers::flag_out))]
-pub(crate) fn flag_out(t: bool) -> u8
-    ensures { result ≡ flag_out t }
-{
-    if t { 1 } else { 0 }
+impl From<Result<usize, Refusal>> for BkWritten {
+    ghost from_gives = { λ a r. r ≡ written_out a };
+
+    #[tactic(auto, unfolding(crate::specs::Answers::written_out, crate::specs::Answers::split))]
+    fn from(answer: Result<usize, Refusal>) -> BkWritten {
+        let (bytes, refusal) = split(answer, 0);
+        BkWritten { bytes, refusal }
+    }
 }

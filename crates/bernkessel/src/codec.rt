@@ -3,14 +3,15 @@ ghost use Rattle.std.specs.Prelude.{◌≡◌, [], ◌∷◌, take};
 ghost use Rattle.bernkessel.specs.Codec.{descriptor_in, descriptor_out, sample_read_out};
 ghost use Rattle.bernkessel.specs.Promises.{RequestWritten, DescriptorWritten, DescriptorReads, SampleWritten, SampleRowWritten, SampleReads, SampleRowReads};
 
-use crate::answer::{BkWritten, written_out};
-use crate::sample::{BkSample, sample_in, sample_out};
-use wire::descriptor::{Descriptor, DescriptorRead};
+use crate::answer::{BkWritten, split};
+use crate::sample::BkSample;
+use paper::refusal::Refusal;
+use wire::descriptor::Descriptor;
 use wire::request::Request;
-use wire::sample::{Sample, SampleRead};
+use wire::sample::Sample;
 
 #[repr(C)]
-#[derive(Clone, Copy)]
+#[derive(Clone, Copy, Default)]
 pub struct BkDescriptor {
     pub length: u32,
     pub mode: u8,
@@ -35,42 +36,42 @@ pub struct BkSampleAnswer {
 pub extern "C" fn bk_request_write(code: u8, payload: &[u8], out: &mut [u8]) -> BkWritten
     ensures { RequestWritten code payload.now out.old result out.new }
 {
-    written_out(Request(code).write(payload, out))
+    Request(code).write(payload, out).into()
 }
 
 #[unsafe(no_mangle)]
 pub extern "C" fn bk_descriptor_write(descriptor: BkDescriptor, out: &mut [u8]) -> BkWritten
     ensures { DescriptorWritten descriptor out.old result out.new }
 {
-    written_out(descriptor_in(descriptor).write(out))
+    Descriptor::from(descriptor).write(out).into()
 }
 
 #[unsafe(no_mangle)]
 pub extern "C" fn bk_descriptor_read(bytes: &[u8]) -> BkDescriptorAnswer
     ensures { DescriptorReads bytes.now result }
 {
-    descriptor_out(Descriptor::read(bytes))
+    Descriptor::read(bytes).into()
 }
 
 #[unsafe(no_mangle)]
 pub extern "C" fn bk_sample_write(sample: BkSample, out: &mut [u8]) -> BkWritten
     ensures { SampleWritten sample out.old result out.new }
 {
-    written_out(sample_in(sample).write(out))
+    Sample::from(sample).write(out).into()
 }
 
 #[unsafe(no_mangle)]
 pub extern "C" fn bk_sample_write_words(sample: BkSample, row: &mut [u16]) -> BkWritten
     ensures { SampleRowWritten sample row.old result row.new }
 {
-    written_out(sample_in(sample).write_words(row))
+    Sample::from(sample).write_words(row).into()
 }
 
 #[unsafe(no_mangle)]
 pub extern "C" fn bk_sample_read(bytes: &[u8]) -> BkSampleAnswer
     ensures { SampleReads bytes.now result }
 {
-    sample_read_out(Sample::read(bytes))
+    Sample::read(bytes).into()
 }
 
 // Of the first five bytes.
@@ -78,63 +79,60 @@ pub extern "C" fn bk_sample_read(bytes: &[u8]) -> BkSampleAnswer
 pub extern "C" fn bk_sample_front(part: &[u8]) -> BkSampleAnswer
     ensures { SampleReads (take 5 part.now) result }
 {
-    sample_read_out(Sample::front(part))
+    Sample::front(part).into()
 }
 
 #[unsafe(no_mangle)]
 pub extern "C" fn bk_sample_read_words(angle: u16, distance: u16, mark: u16) -> BkSampleAnswer
     ensures { SampleRowReads (angle ∷ distance ∷ mark ∷ []) result }
 {
-    sample_read_out(Sample::read_words(angle, distance, mark))
+    Sample::read_words(angle, distance, mark).into()
 }
 
-#[tactic(auto, unfolding(crate::specs::Codec::descriptor_in))]
-fn descriptor_in(c: BkDescriptor) -> Descriptor
-    ensures { result ≡ descriptor_in c }
-{
-    Descriptor {
-        length: c.length,
-        mode: c.mode,
-        kind: c.kind,
+impl From<BkDescriptor> for Descriptor {
+    ghost from_gives = { λ c r. r ≡ descriptor_in c };
+
+    #[tactic(auto, unfolding(crate::specs::Codec::descriptor_in))]
+    fn from(c: BkDescriptor) -> Descriptor {
+        Descriptor {
+            length: c.length,
+            mode: c.mode,
+            kind: c.kind,
+        }
     }
 }
 
-#[tactic(auto, unfolding(crate::specs::Codec::descriptor_out))]
-fn descriptor_out(read: DescriptorRead) -> BkDescriptorAnswer
-    ensures { result ≡ descriptor_out read }
-{
-    match read {
-        DescriptorRead::Gives(d) => BkDescriptorAnswer {
-            descriptor: BkDescriptor {
-                length: d.length,
-                mode: d.mode,
-                kind: d.kind,
-            },
-            refusal: 0,
-        },
-        DescriptorRead::Refused(q) => BkDescriptorAnswer {
-            descriptor: BkDescriptor {
-                length: 0,
-                mode: 0,
-                kind: 0,
-            },
-            refusal: q.number(),
-        },
+impl From<Descriptor> for BkDescriptor {
+    ghost from_gives = { λ d r. r ≡ record { length = d.length; mode = d.mode; kind = d.kind } };
+
+    fn from(d: Descriptor) -> BkDescriptor {
+        BkDescriptor {
+            length: d.length,
+            mode: d.mode,
+            kind: d.kind,
+        }
     }
 }
 
-#[tactic(auto, unfolding(crate::specs::Codec::sample_read_out, crate::specs::Sample::none))]
-fn sample_read_out(read: SampleRead) -> BkSampleAnswer
-    ensures { result ≡ sample_read_out read }
-{
-    match read {
-        SampleRead::Gives(m) => BkSampleAnswer {
-            sample: sample_out(m),
-            refusal: 0,
-        },
-        SampleRead::Refused(q) => BkSampleAnswer {
-            sample: crate::sample::NONE,
-            refusal: q.number(),
-        },
+impl From<Result<Descriptor, Refusal>> for BkDescriptorAnswer {
+    ghost from_gives = { λ a r. r ≡ descriptor_out a };
+
+    #[tactic(auto, unfolding(crate::specs::Codec::descriptor_out, crate::specs::Answers::split))]
+    fn from(read: Result<Descriptor, Refusal>) -> BkDescriptorAnswer {
+        let (descriptor, refusal) = split(read.map(BkDescriptor::from), BkDescriptor::default());
+        BkDescriptorAnswer {
+            descriptor,
+            refusal,
+        }
+    }
+}
+
+impl From<Result<Sample, Refusal>> for BkSampleAnswer {
+    ghost from_gives = { λ a r. r ≡ sample_read_out a };
+
+    #[tactic(auto, unfolding(crate::specs::Codec::sample_read_out, crate::specs::Sample::none, crate::specs::Answers::split))]
+    fn from(read: Result<Sample, Refusal>) -> BkSampleAnswer {
+        let (sample, refusal) = split(read.map(BkSample::from), BkSample::default());
+        BkSampleAnswer { sample, refusal }
     }
 }

@@ -4,12 +4,12 @@ ghost use Rattle.bernkessel.specs.Host.{host_in, host_out, asked_out, heard_out,
 ghost use Rattle.bernkessel.specs.Promises.{HostMade, HostSends, HostReads, HostGathers, HostNumber};
 
 use crate::answer::BkWritten;
-use crate::reader::{BkReader, reader_in, reader_out, stop_out};
-use crate::records::{BkNumber, number_out};
-use crate::sessions::{BkSession, session_in, session_out};
-use crate::turns::{BkGatherer, gatherer_in, gatherer_out};
-use host::{Asked, Heard, Host, Told, Turned};
-use paper::refusal::Written;
+use crate::reader::{BkReader, stop_out};
+use crate::records::BkNumber;
+use crate::sessions::BkSession;
+use crate::turns::BkGatherer;
+use host::{Asked, Heard, Host, Turned};
+use paper::refusal::Refusal;
 use wire::request::Request;
 
 #[repr(C)]
@@ -52,7 +52,7 @@ pub struct BkTurned {
 pub extern "C" fn bk_host_new() -> BkHost
     ensures { HostMade result }
 {
-    host_out(Host::new())
+    Host::new().into()
 }
 
 #[unsafe(no_mangle)]
@@ -65,14 +65,17 @@ pub extern "C" fn bk_host_send(
 ) -> BkHostSent
     ensures { HostSends host time code payload.now out.old result out.new }
 {
-    asked_out(host, host_in(host).send(time, Request(code), payload, out))
+    asked_out(
+        host,
+        Host::from(host).send(time, Request(code), payload, out),
+    )
 }
 
 #[unsafe(no_mangle)]
 pub extern "C" fn bk_host_read(host: BkHost, input: &[u8], words: &mut [u16]) -> BkHeard
     ensures { HostReads host input.now words.old result words.new }
 {
-    heard_out(host_in(host).read(input, words))
+    Host::from(host).read(input, words).into()
 }
 
 #[unsafe(no_mangle)]
@@ -88,7 +91,7 @@ pub extern "C" fn bk_host_gather(
 {
     turned_out(
         host,
-        host_in(host).gather(row, number, filling, closed, rec),
+        Host::from(host).gather(row, number, filling, closed, rec),
     )
 }
 
@@ -96,101 +99,95 @@ pub extern "C" fn bk_host_gather(
 pub extern "C" fn bk_host_next_number(mem: &[u8]) -> BkNumber
     ensures { HostNumber mem.now result }
 {
-    number_out(host::number::next_number(mem))
+    host::number::next_number(mem).into()
 }
 
-#[tactic(auto, unfolding(crate::specs::Host::host_in))]
-fn host_in(c: BkHost) -> Host
-    ensures { result ≡ host_in c }
-{
-    let session = c.session;
-    let reader = c.reader;
-    let gatherer = c.gatherer;
-    let serial = c.serial;
-    Host {
-        session: session_in(session),
-        reader: reader_in(reader),
-        gatherer: gatherer_in(gatherer),
-        serial,
+impl From<BkHost> for Host {
+    ghost from_gives = { λ c r. r ≡ host_in c };
+
+    #[tactic(auto, unfolding(crate::specs::Host::host_in))]
+    fn from(c: BkHost) -> Host {
+        let BkHost {
+            session,
+            reader,
+            gatherer,
+            serial,
+        } = c;
+        Host {
+            session: session.into(),
+            reader: reader.into(),
+            gatherer: gatherer.into(),
+            serial,
+        }
     }
 }
 
-#[tactic(auto, unfolding(crate::specs::Host::host_out))]
-fn host_out(host: Host) -> BkHost
-    ensures { result ≡ host_out host }
-{
-    let session = host.session;
-    let reader = host.reader;
-    let gatherer = host.gatherer;
-    let serial = host.serial;
-    BkHost {
-        session: session_out(session),
-        reader: reader_out(reader),
-        gatherer: gatherer_out(gatherer),
-        serial,
+impl From<Host> for BkHost {
+    ghost from_gives = { λ h r. r ≡ host_out h };
+
+    #[tactic(auto, unfolding(crate::specs::Host::host_out))]
+    fn from(host: Host) -> BkHost {
+        let Host {
+            session,
+            reader,
+            gatherer,
+            serial,
+        } = host;
+        BkHost {
+            session: session.into(),
+            reader: reader.into(),
+            gatherer: gatherer.into(),
+            serial,
+        }
     }
 }
 
-#[tactic(auto, unfolding(crate::specs::Host::asked_out, crate::specs::Host::asked_by))]
-fn asked_out(was: BkHost, asked: Asked) -> BkHostSent
+#[tactic(auto, unfolding(crate::specs::Host::asked_out, crate::specs::Answers::written_out))]
+fn asked_out(was: BkHost, asked: Result<Asked, Refusal>) -> BkHostSent
     ensures { result ≡ asked_out was asked }
 {
-    let answer = asked.answer;
-    let next = asked.host;
-    match answer {
-        Written::Bytes(bytes) => BkHostSent {
-            host: host_out(next),
-            written: BkWritten { bytes, refusal: 0 },
-        },
-        Written::Refused(q) => BkHostSent {
-            host: was,
-            written: BkWritten {
-                bytes: 0,
-                refusal: q.number(),
-            },
-        },
+    BkHostSent {
+        host: asked.map_or(was, |a| a.host.into()),
+        written: asked.map(|a| a.bytes).into(),
     }
 }
 
-#[tactic(auto, unfolding(crate::specs::Host::heard_out))]
-fn heard_out(heard: Heard) -> BkHeard
-    ensures { result ≡ heard_out heard }
-{
-    let next = heard.host;
-    let stop = heard.stop;
-    let reply = heard.reply;
-    BkHeard {
-        host: host_out(next),
-        taken: heard.taken,
-        words: heard.words,
-        stop: stop_out(stop),
-        reply,
+impl From<Heard> for BkHeard {
+    ghost from_gives = { λ a r. r ≡ heard_out a };
+
+    #[tactic(auto, unfolding(crate::specs::Host::heard_out))]
+    fn from(heard: Heard) -> BkHeard {
+        let Heard {
+            host,
+            taken,
+            words,
+            stop,
+            reply,
+        } = heard;
+        BkHeard {
+            host: host.into(),
+            taken,
+            words,
+            stop: stop_out(stop),
+            reply,
+        }
     }
 }
 
-#[tactic(auto, unfolding(crate::specs::Host::turned_out, crate::specs::Host::turned_by))]
-fn turned_out(was: BkHost, turned: Turned) -> BkTurned
+#[tactic(auto, unfolding(crate::specs::Host::turned_out))]
+fn turned_out(was: BkHost, turned: Result<Turned, Refusal>) -> BkTurned
     ensures { result ≡ turned_out was turned }
 {
-    let answer = turned.answer;
-    let next = turned.host;
-    let words = turned.words;
-    match answer {
-        Told::Taken => BkTurned {
-            host: host_out(next),
-            words,
-            turn: 0,
+    match turned {
+        Ok(turned) => BkTurned {
+            host: turned.host.into(),
+            words: turned.words,
+            turn: turned.turn.unwrap_or(0),
             refusal: 0,
         },
-        Told::Closed(turn) => BkTurned {
-            host: host_out(next),
-            words,
-            turn,
-            refusal: 0,
-        },
-        Told::Refused(q) => BkTurned {
+        Err(q) => BkTurned {
             host: was,
-            words,
+            words: 0,
             turn: 0,
             refusal: q.number(),
         },

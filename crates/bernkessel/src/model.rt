@@ -3,11 +3,11 @@ ghost use Rattle.std.specs.Prelude.{◌≡◌};
 ghost use Rattle.bernkessel.specs.Model.{state_in, state_out, model_in, model_out, asked_out, health_set_out};
 ghost use Rattle.bernkessel.specs.Promises.{ModelFresh, ModelAsks, ModelSends, ModelFaults, ModelMotor, ModelError, ModelHealth, ModelStatus};
 
-use crate::answer::{BkWritten, flag_out, written_out};
-use crate::replies::{BkInfo, info_in, info_out};
-use crate::sample::{BkSample, sample_in};
-use device::model::{Asked, HealthSet, Model, State};
-use paper::refusal::{Answer, Written};
+use crate::answer::{BkWritten, split};
+use crate::replies::BkInfo;
+use crate::sample::BkSample;
+use device::model::{Asked, Model, State};
+use paper::refusal::Refusal;
 use wire::request::Request;
 
 // The bytes of the states; any other byte is MODEL_IDLE.
@@ -48,28 +48,28 @@ pub struct BkHealthSet {
 pub extern "C" fn bk_model_new(info: BkInfo) -> BkModel
     ensures { ModelFresh info result }
 {
-    model_out(Model::new(info_in(info)))
+    Model::new(info.into()).into()
 }
 
 #[unsafe(no_mangle)]
 pub extern "C" fn bk_model_request(model: BkModel, code: u8, out: &mut [u8]) -> BkAsked
     ensures { ModelAsks model code out.old result out.new }
 {
-    asked_out(model, model_in(model).request(Request(code), out))
+    asked_out(model, Model::from(model).request(Request(code), out))
 }
 
 #[unsafe(no_mangle)]
 pub extern "C" fn bk_model_sample(model: BkModel, sample: BkSample, out: &mut [u8]) -> BkWritten
     ensures { ModelSends model sample out.old result out.new }
 {
-    written_out(model_in(model).sample(sample_in(sample), out))
+    Model::from(model).sample(sample.into(), out).into()
 }
 
 #[unsafe(no_mangle)]
 pub extern "C" fn bk_model_fault(model: BkModel) -> BkModel
     ensures { ModelFaults model result }
 {
-    model_out(model_in(model).fault())
+    Model::from(model).fault().into()
 }
 
 #[tactic(auto, unfolding(crate::specs::Answers::flag_in))]
@@ -77,14 +77,14 @@ pub extern "C" fn bk_model_fault(model: BkModel) -> BkModel
 pub extern "C" fn bk_model_set_motor(model: BkModel, stable: u8) -> BkModel
     ensures { ModelMotor model stable result }
 {
-    model_out(model_in(model).set_motor(stable != 0))
+    Model::from(model).set_motor(stable != 0).into()
 }
 
 #[unsafe(no_mangle)]
 pub extern "C" fn bk_model_set_error(model: BkModel, error: u16) -> BkModel
     ensures { ModelError model error result }
 {
-    model_out(model_in(model).set_error(error))
+    Model::from(model).set_error(error).into()
 }
 
 #[tactic(auto, unfolding(crate::specs::Model::model_in))]
@@ -92,14 +92,14 @@ pub extern "C" fn bk_model_set_error(model: BkModel, error: u16) -> BkModel
 pub extern "C" fn bk_model_set_status(model: BkModel, status: u8) -> BkHealthSet
     ensures { ModelStatus model status result }
 {
-    health_set_out(model, model_in(model).set_status(status))
+    health_set_out(model, Model::from(model).set_status(status))
 }
 
 #[unsafe(no_mangle)]
 pub extern "C" fn bk_model_set_health(model: BkModel, status: u8, error: u16) -> BkHealthSet
     ensures { ModelHealth model status error result }
 {
-    health_set_out(model, model_in(model).set_health(status, error))
+    health_set_out(model, Model::from(model).set_health(status, error))
 }
 
 #[tactic(auto, unfolding(crate::specs::Model::state_in, crate::specs::Model::state_out))]
@@ -126,70 +126,50 @@ fn state_out(state: State) -> u8
     }
 }
 
-#[tactic(auto, unfolding(crate::specs::Model::model_in, crate::specs::Answers::flag_in))]
-fn model_in(c: BkModel) -> Model
-    ensures { result ≡ model_in c }
-{
-    let info = c.info;
-    Model {
-        state: state_in(c.state),
-        stable: c.stable != 0,
-        warning: c.warning != 0,
-        error: c.error,
-        info: info_in(info),
+impl From<BkModel> for Model {
+    ghost from_gives = { λ c r. r ≡ model_in c };
+
+    #[tactic(auto, unfolding(crate::specs::Model::model_in, crate::specs::Answers::flag_in))]
+    fn from(c: BkModel) -> Model {
+        Model {
+            state: state_in(c.state),
+            stable: c.stable != 0,
+            warning: c.warning != 0,
+            error: c.error,
+            info: c.info.into(),
+        }
     }
 }
 
-#[tactic(auto, unfolding(crate::specs::Model::model_out))]
-fn model_out(model: Model) -> BkModel
-    ensures { result ≡ model_out model }
-{
-    let info = model.info;
-    let state = model.state;
-    BkModel {
-        info: info_out(info),
-        error: model.error,
-        state: state_out(state),
-        stable: flag_out(model.stable),
-        warning: flag_out(model.warning),
+impl From<Model> for BkModel {
+    ghost from_gives = { λ m r. r ≡ model_out m };
+
+    #[tactic(auto, unfolding(crate::specs::Model::model_out, crate::specs::Answers::flag_out))]
+    fn from(model: Model) -> BkModel {
+        BkModel {
+            info: model.info.into(),
+            error: model.error,
+            state: state_out(model.state),
+            stable: u8::from(model.stable),
+            warning: u8::from(model.warning),
+        }
     }
 }
 
-#[tactic(auto, unfolding(crate::specs::Model::asked_out, crate::specs::Model::asked_by))]
-fn asked_out(was: BkModel, asked: Asked) -> BkAsked
+#[tactic(auto, unfolding(crate::specs::Model::asked_out, crate::specs::Answers::written_out))]
+fn asked_out(was: BkModel, asked: Result<Asked, Refusal>) -> BkAsked
     ensures { result ≡ asked_out was asked }
 {
-    let answer = asked.answer;
-    let next = asked.model;
-    match answer {
-        Written::Bytes(bytes) => BkAsked {
-            model: model_out(next),
-            written: BkWritten { bytes, refusal: 0 },
-        },
-        Written::Refused(q) => BkAsked {
-            model: was,
-            written: BkWritten {
-                bytes: 0,
-                refusal: q.number(),
-            },
-        },
+    BkAsked {
+        model: asked.map_or(was, |a| a.model.into()),
+        written: asked.map(|a| a.bytes).into(),
     }
 }
 
-#[tactic(auto, unfolding(crate::specs::Model::health_set_out, crate::specs::Model::health_set_by))]
-fn health_set_out(was: BkModel, set: HealthSet) -> BkHealthSet
+#[tactic(auto, unfolding(crate::specs::Model::health_set_out, crate::specs::Answers::split))]
+fn health_set_out(was: BkModel, set: Result<Model, Refusal>) -> BkHealthSet
     ensures { result ≡ health_set_out was set }
 {
-    let answer = set.answer;
-    let next = set.model;
-    match answer {
-        Answer::Done => BkHealthSet {
-            model: model_out(next),
-            refusal: 0,
-        },
-        Answer::Refused(q) => BkHealthSet {
-            model: was,
-            refusal: q.number(),
-        },
-    }
+    let (model, refusal) = split(set.map(BkModel::from), was);
+    BkHealthSet { model, refusal }
 }

@@ -4,8 +4,9 @@ ghost use Rattle.stream.specs.Stops.{stop_number};
 ghost use Rattle.bernkessel.specs.Reader.{phase_in, phase_out, reader_in, reader_out, told_out, reading_out};
 ghost use Rattle.bernkessel.specs.Promises.{ReaderMade, ReaderTells, ReaderReads};
 
-use paper::refusal::Answer;
-use stream::{Phase, Reader, Reading, Stop, Told};
+use crate::answer::split;
+use paper::refusal::Refusal;
+use stream::{Phase, Reader, Reading, Stop};
 use wire::request::Request;
 
 // The bytes of the phases; any other byte is IDLE.
@@ -64,21 +65,21 @@ pub struct BkReading {
 pub extern "C" fn bk_reader_new() -> BkReader
     ensures { ReaderMade result }
 {
-    reader_out(Reader::new())
+    Reader::new().into()
 }
 
 #[unsafe(no_mangle)]
 pub extern "C" fn bk_reader_tell(reader: BkReader, code: u8) -> BkTold
     ensures { ReaderTells reader code result }
 {
-    told_out(reader, reader_in(reader).tell(Request(code)))
+    told_out(reader, Reader::from(reader).tell(Request(code)))
 }
 
 #[unsafe(no_mangle)]
 pub extern "C" fn bk_reader_read(reader: BkReader, input: &[u8], words: &mut [u16]) -> BkReading
     ensures { ReaderReads reader input.now words.old result words.new }
 {
-    reading_out(reader_in(reader).read(input, words))
+    Reader::from(reader).read(input, words).into()
 }
 
 #[tactic(auto, unfolding(crate::specs::Reader::phase_in, crate::specs::Reader::phase_out))]
@@ -124,65 +125,72 @@ pub(crate) fn stop_out(stop: Stop) -> u8
     }
 }
 
-#[tactic(auto, unfolding(crate::specs::Reader::reader_in))]
-pub(crate) fn reader_in(c: BkReader) -> Reader
-    ensures { result ≡ reader_in c }
-{
-    let held = c.held;
-    Reader {
-        phase: phase_in(c.phase),
-        n: c.n,
-        held,
-        skipped: c.skipped,
+impl From<BkReader> for Reader {
+    ghost from_gives = { λ c r. r ≡ reader_in c };
+
+    #[tactic(auto, unfolding(crate::specs::Reader::reader_in))]
+    fn from(c: BkReader) -> Reader {
+        let BkReader {
+            phase,
+            n,
+            held,
+            skipped,
+        } = c;
+        Reader {
+            phase: phase_in(phase),
+            n,
+            held,
+            skipped,
+        }
     }
 }
 
-#[tactic(auto, unfolding(crate::specs::Reader::reader_out))]
-pub(crate) fn reader_out(reader: Reader) -> BkReader
-    ensures { result ≡ reader_out reader }
-{
-    let phase = reader.phase;
-    let held = reader.held;
-    BkReader {
-        phase: phase_out(phase),
-        n: reader.n,
-        held,
-        skipped: reader.skipped,
+impl From<Reader> for BkReader {
+    ghost from_gives = { λ s r. r ≡ reader_out s };
+
+    #[tactic(auto, unfolding(crate::specs::Reader::reader_out))]
+    fn from(reader: Reader) -> BkReader {
+        let Reader {
+            phase,
+            n,
+            held,
+            skipped,
+        } = reader;
+        BkReader {
+            phase: phase_out(phase),
+            n,
+            held,
+            skipped,
+        }
     }
 }
 
-#[tactic(auto, unfolding(crate::specs::Reader::told_out, crate::specs::Reader::told_by))]
-fn told_out(was: BkReader, told: Told) -> BkTold
+#[tactic(auto, unfolding(crate::specs::Reader::told_out, crate::specs::Answers::split))]
+fn told_out(was: BkReader, told: Result<Reader, Refusal>) -> BkTold
     ensures { result ≡ told_out was told }
 {
-    let answer = told.answer;
-    match answer {
-        Answer::Done => {
-            let next = told.reader;
-            BkTold {
-                reader: reader_out(next),
-                refusal: 0,
-            }
-        }
-        Answer::Refused(q) => BkTold {
-            reader: was,
-            refusal: q.number(),
-        },
-    }
+    let (reader, refusal) = split(told.map(BkReader::from), was);
+    BkTold { reader, refusal }
 }
 
-#[tactic(auto, unfolding(crate::specs::Reader::reading_out))]
-fn reading_out(reading: Reading) -> BkReading
-    ensures { result ≡ reading_out reading }
-{
-    let next = reading.reader;
-    let stop = reading.stop;
-    let reply = reading.reply;
-    BkReading {
-        reader: reader_out(next),
-        taken: reading.taken,
-        words: reading.words,
-        stop: stop_out(stop),
-        reply,
+impl From<Reading> for BkReading {
+    ghost from_gives = { λ a r. r ≡ reading_out a };
+
+    #[tactic(auto, unfolding(crate::specs::Reader::reading_out))]
+    fn from(reading: Reading) -> BkReading {
+        let Reading {
+            reader,
+            taken,
+            words,
+            stop,
+            reply,
+        } = reading;
+        BkReading {
+            reader: reader.into(),
+            taken,
+            words,
+            stop: stop_out(stop),
+            reply,
+        }
     }
 }

@@ -6,10 +6,10 @@ ghost use Rattle.record.specs.Record.{Turn, turn_of};
 ghost use Rattle.bernkessel.specs.Record.{number_out, count_out, cell_out};
 ghost use Rattle.bernkessel.specs.Promises.{RecordWritten, RecordChecked, RecordNumber, RecordCount, RecordCell, RecordSerial};
 
-use crate::answer::{BkWritten, answer_out, written_out};
+use crate::answer::{BkWritten, answer_out, split};
 use crate::sample::BkDistanceQ2;
-use paper::refusal::{Answer, Written};
-use record::read::{CellRead, CountRead, NumberRead};
+use paper::refusal::Refusal;
+use paper::unit::DistanceQ2;
 use record::{read, write};
 
 #[repr(C)]
@@ -43,7 +43,7 @@ pub extern "C" fn bk_record_write(
 ) -> BkWritten
     ensures { RecordWritten number count serial.now cells.now out.old result out.new }
 {
-    written_out(write::write(number, count, serial, cells, out))
+    write::write(number, count, serial, cells, out).into()
 }
 
 #[unsafe(no_mangle)]
@@ -57,77 +57,67 @@ pub extern "C" fn bk_record_check(rec: &[u8]) -> u8
 pub extern "C" fn bk_record_number(rec: &[u8]) -> BkNumber
     ensures { RecordNumber rec.now result }
 {
-    number_out(read::number(rec))
+    read::number(rec).into()
 }
 
 #[unsafe(no_mangle)]
 pub extern "C" fn bk_record_count(rec: &[u8]) -> BkCount
     ensures { RecordCount rec.now result }
 {
-    count_out(read::count(rec))
+    read::count(rec).into()
 }
 
 #[unsafe(no_mangle)]
 pub extern "C" fn bk_record_cell(rec: &[u8], c: usize) -> BkCell
     ensures { RecordCell rec.now c result }
 {
-    cell_out(read::cell(rec, c))
+    read::cell(rec, c).into()
 }
 
 #[unsafe(no_mangle)]
 pub extern "C" fn bk_record_serial(rec: &[u8], out: &mut [u8]) -> BkWritten
     ensures { RecordSerial rec.now out.old result out.new }
 {
-    written_out(write_serial(rec, out))
+    write_serial(rec, out).into()
 }
 
-fn write_serial(rec: &[u8], out: &mut [u8]) -> Written
+#[tactic(auto, unfolding(record::specs::Record::turn_of, paper::specs::Outcome::refuse_if, paper::specs::Outcome::if_given, paper::specs::Outcome::mapped, paper::specs::Refusals::outcome, paper::specs::Writing::fitting))]
+fn write_serial(rec: &[u8], out: &mut [u8]) -> Result<usize, Refusal>
     ensures { Writes (mapped (λ (t : Turn). t.serial) (turn_of rec.now)) out.old result out.new }
 {
-    if let Answer::Refused(q) = read::check(rec) {
-        return Written::Refused(q);
-    }
+    read::check(rec)?;
     paper::write::write(read::serial(rec), out)
 }
 
-#[tactic(auto, unfolding(crate::specs::Record::number_out))]
-pub(crate) fn number_out(number: NumberRead) -> BkNumber
-    ensures { result ≡ number_out number }
-{
-    match number {
-        NumberRead::Number(number) => BkNumber { number, refusal: 0 },
-        NumberRead::Refused(q) => BkNumber {
-            number: 0,
-            refusal: q.number(),
-        },
+impl From<Result<u32, Refusal>> for BkNumber {
+    ghost from_gives = { λ a r. r ≡ number_out a };
+
+    #[tactic(auto, unfolding(crate::specs::Record::number_out, crate::specs::Answers::split))]
+    fn from(answer: Result<u32, Refusal>) -> BkNumber {
+        let (number, refusal) = split(answer, 0);
+        BkNumber { number, refusal }
     }
 }
 
-#[tactic(auto, unfolding(crate::specs::Record::count_out))]
-fn count_out(count: CountRead) -> BkCount
-    ensures { result ≡ count_out count }
-{
-    match count {
-        CountRead::Count(count) => BkCount { count, refusal: 0 },
-        CountRead::Refused(q) => BkCount {
-            count: 0,
-            refusal: q.number(),
-        },
+impl From<Result<u16, Refusal>> for BkCount {
+    ghost from_gives = { λ a r. r ≡ count_out a };
+
+    #[tactic(auto, unfolding(crate::specs::Record::count_out, crate::specs::Answers::split))]
+    fn from(answer: Result<u16, Refusal>) -> BkCount {
+        let (count, refusal) = split(answer, 0);
+        BkCount { count, refusal }
     }
 }
 
-#[tactic(auto, unfolding(crate::specs::Record::cell_out))]
-fn cell_out(cell: CellRead) -> BkCell
-    ensures { result ≡ cell_out cell }
-{
-    match cell {
-        CellRead::Cell(d) => BkCell {
-            distance: BkDistanceQ2 { q2: d.0 },
-            refusal: 0,
-        },
-        CellRead::Refused(q) => BkCell {
-            distance: BkDistanceQ2 { q2: 0 },
-            refusal: q.number(),
-        },
+impl From<Result<DistanceQ2, Refusal>> for BkCell {
+    ghost from_gives = { λ a r. r ≡ cell_out a };
+
+    #[tactic(auto, unfolding(crate::specs::Record::cell_out, crate::specs::Answers::split))]
+    fn from(answer: Result<DistanceQ2, Refusal>) -> BkCell {
+        let (q2, refusal) = split(answer.map(|d| d.0), 0);
+        BkCell {
+            distance: BkDistanceQ2 { q2 },
+            refusal,
+        }
     }
 }

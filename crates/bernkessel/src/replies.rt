@@ -3,11 +3,12 @@ ghost use Rattle.std.specs.Prelude.{◌≡◌};
 ghost use Rattle.bernkessel.specs.Reply.{info_in, info_out, info_read_out, health_in, health_read_out};
 ghost use Rattle.bernkessel.specs.Promises.{InfoWritten, InfoReads, HealthWritten, HealthReads};
 
-use crate::answer::{BkWritten, answer_out, written_out};
-use wire::reply::{Health, HealthRead, Info, InfoRead};
+use crate::answer::{BkWritten, split};
+use paper::refusal::Refusal;
+use wire::reply::{Health, Info};
 
 #[repr(C)]
-#[derive(Clone, Copy)]
+#[derive(Clone, Copy, Default)]
 pub struct BkInfo {
     pub model: u8,
     pub minor: u8,
@@ -24,7 +25,7 @@ pub struct BkInfoAnswer {
 }
 
 #[repr(C)]
-#[derive(Clone, Copy)]
+#[derive(Clone, Copy, Default)]
 pub struct BkHealth {
     pub error: u16,
     pub status: u8,
@@ -41,98 +42,113 @@ pub struct BkHealthAnswer {
 pub extern "C" fn bk_info_write(info: BkInfo, out: &mut [u8]) -> BkWritten
     ensures { InfoWritten info out.old result out.new }
 {
-    written_out(info_in(info).write(out))
+    Info::from(info).write(out).into()
 }
 
 #[unsafe(no_mangle)]
 pub extern "C" fn bk_info_read(bytes: &[u8]) -> BkInfoAnswer
     ensures { InfoReads bytes.now result }
 {
-    info_read_out(Info::read(bytes))
+    Info::read(bytes).into()
 }
 
 #[unsafe(no_mangle)]
 pub extern "C" fn bk_health_write(health: BkHealth, out: &mut [u8]) -> BkWritten
     ensures { HealthWritten health out.old result out.new }
 {
-    written_out(health_in(health).write(out))
+    Health::from(health).write(out).into()
 }
 
 #[unsafe(no_mangle)]
 pub extern "C" fn bk_health_read(bytes: &[u8]) -> BkHealthAnswer
     ensures { HealthReads bytes.now result }
 {
-    health_read_out(Health::read(bytes))
+    Health::read(bytes).into()
 }
 
-#[tactic(auto, unfolding(crate::specs::Reply::info_in))]
-pub(crate) fn info_in(c: BkInfo) -> Info
-    ensures { result ≡ info_in c }
-{
-    let serial = c.serial;
-    Info {
-        model: c.model,
-        minor: c.minor,
-        major: c.major,
-        hardware: c.hardware,
-        serial,
+impl From<BkInfo> for Info {
+    ghost from_gives = { λ c r. r ≡ info_in c };
+
+    #[tactic(auto, unfolding(crate::specs::Reply::info_in))]
+    fn from(c: BkInfo) -> Info {
+        let BkInfo {
+            model,
+            minor,
+            major,
+            hardware,
+            serial,
+        } = c;
+        Info {
+            model,
+            minor,
+            major,
+            hardware,
+            serial,
+        }
     }
 }
 
-#[tactic(auto, unfolding(crate::specs::Reply::info_out))]
-pub(crate) fn info_out(info: Info) -> BkInfo
-    ensures { result ≡ info_out info }
-{
-    let serial = info.serial;
-    BkInfo {
-        model: info.model,
-        minor: info.minor,
-        major: info.major,
-        hardware: info.hardware,
-        serial,
+impl From<Info> for BkInfo {
+    ghost from_gives = { λ i r. r ≡ info_out i };
+
+    #[tactic(auto, unfolding(crate::specs::Reply::info_out))]
+    fn from(info: Info) -> BkInfo {
+        let Info {
+            model,
+            minor,
+            major,
+            hardware,
+            serial,
+        } = info;
+        BkInfo {
+            model,
+            minor,
+            major,
+            hardware,
+            serial,
+        }
     }
 }
 
-#[tactic(auto, unfolding(crate::specs::Reply::info_read_out))]
-fn info_read_out(read: InfoRead) -> BkInfoAnswer
-    ensures { result ≡ info_read_out read }
-{
-    let info = read.info;
-    let answer = read.answer;
-    BkInfoAnswer {
-        info: info_out(info),
-        refusal: answer_out(answer),
+impl From<Result<Info, Refusal>> for BkInfoAnswer {
+    ghost from_gives = { λ a r. r ≡ info_read_out a };
+
+    #[tactic(auto, unfolding(crate::specs::Reply::info_read_out, crate::specs::Reply::info_out, wire::specs::Reply::blank, crate::specs::Answers::split))]
+    fn from(read: Result<Info, Refusal>) -> BkInfoAnswer {
+        let (info, refusal) = split(read.map(BkInfo::from), BkInfo::default());
+        BkInfoAnswer { info, refusal }
     }
 }
 
-#[tactic(auto, unfolding(crate::specs::Reply::health_in))]
-fn health_in(c: BkHealth) -> Health
-    ensures { result ≡ health_in c }
-{
-    Health {
-        status: c.status,
-        error: c.error,
+impl From<BkHealth> for Health {
+    ghost from_gives = { λ c r. r ≡ health_in c };
+
+    #[tactic(auto, unfolding(crate::specs::Reply::health_in))]
+    fn from(c: BkHealth) -> Health {
+        Health {
+            status: c.status,
+            error: c.error,
+        }
     }
 }
 
-#[tactic(auto, unfolding(crate::specs::Reply::health_read_out))]
-fn health_read_out(read: HealthRead) -> BkHealthAnswer
-    ensures { result ≡ health_read_out read }
-{
-    match read {
-        HealthRead::Gives(h) => BkHealthAnswer {
-            health: BkHealth {
-                error: h.error,
-                status: h.status,
-            },
-            refusal: 0,
-        },
-        HealthRead::Refused(q) => BkHealthAnswer {
-            health: BkHealth {
-                error: 0,
-                status: 0,
-            },
-            refusal: q.number(),
-        },
+impl From<Health> for BkHealth {
+    ghost from_gives = { λ h r. r ≡ record { error = h.error; status = h.status } };
+
+    fn from(health: Health) -> BkHealth {
+        BkHealth {
+            error: health.error,
+            status: health.status,
+        }
+    }
+}
+
+impl From<Result<Health, Refusal>> for BkHealthAnswer {
+    ghost from_gives = { λ a r. r ≡ health_read_out a };
+
+    #[tactic(auto, unfolding(crate::specs::Reply::health_read_out, crate::specs::Answers::split))]
+    fn from(read: Result<Health, Refusal>) -> BkHealthAnswer {
+        let (health, refusal) = split(read.map(BkHealth::from), BkHealth::default());
+        BkHealthAnswer { health, refusal }
     }
 }

@@ -3,8 +3,8 @@ ghost use Rattle.std.specs.Prelude.{◌≡◌};
 ghost use Rattle.bernkessel.specs.Ring.{held_out};
 ghost use Rattle.bernkessel.specs.Promises.{RingHeld, RingStored, RingAdded, RingTurn, RingReads, RingErased, RingListed};
 
-use crate::answer::{BkWritten, answer_out, written_out};
-use ring::answer::Held;
+use crate::answer::{BkWritten, answer_out, split};
+use paper::refusal::Refusal;
 
 #[repr(C)]
 #[derive(Clone, Copy)]
@@ -25,7 +25,7 @@ pub struct BkPart {
 pub extern "C" fn bk_ring_held(mem: &[u8]) -> BkHeld
     ensures { RingHeld mem.now result }
 {
-    held_out(ring::held(mem))
+    ring::held(mem).into()
 }
 
 #[unsafe(no_mangle)]
@@ -48,7 +48,7 @@ pub extern "C" fn bk_ring_turn(mem: &[u8], i: usize) -> BkPart
     ensures { RingTurn mem.now i result }
 {
     BkPart {
-        offset: ring::turn_start(mem, i),
+        offset: ring::turn_start(mem, i).unwrap_or(0),
         length: ring::turn(mem, i).len(),
         refusal: answer_out(ring::turn_refusal(mem, i)),
     }
@@ -72,18 +72,15 @@ pub extern "C" fn bk_ring_erase(mem: &mut [u8]) -> u8
 pub extern "C" fn bk_ring_list(mem: &[u8], out: &mut [u8]) -> BkWritten
     ensures { RingListed mem.now out.old result out.new }
 {
-    written_out(listing::list(mem, out))
+    listing::list(mem, out).into()
 }
 
-#[tactic(auto, unfolding(crate::specs::Ring::held_out))]
-fn held_out(held: Held) -> BkHeld
-    ensures { result ≡ held_out held }
-{
-    match held {
-        Held::Turns(turns) => BkHeld { turns, refusal: 0 },
-        Held::Refused(q) => BkHeld {
-            turns: 0,
-            refusal: q.number(),
-        },
+impl From<Result<usize, Refusal>> for BkHeld {
+    ghost from_gives = { λ a r. r ≡ held_out a };
+
+    #[tactic(auto, unfolding(crate::specs::Ring::held_out, crate::specs::Answers::split))]
+    fn from(answer: Result<usize, Refusal>) -> BkHeld {
+        let (turns, refusal) = split(answer, 0);
+        BkHeld { turns, refusal }
     }
 }

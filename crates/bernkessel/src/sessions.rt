@@ -4,7 +4,7 @@ ghost use Rattle.bernkessel.specs.Session.{awaited_in, awaited_out, session_in, 
 ghost use Rattle.bernkessel.specs.Promises.{SessionBegun, SessionSends, SessionEnded};
 
 use crate::answer::BkWritten;
-use paper::refusal::Written;
+use paper::refusal::Refusal;
 use session::{Awaited, Sent, Session};
 use wire::request::Request;
 
@@ -28,7 +28,7 @@ pub struct BkSent {
 pub extern "C" fn bk_session_new() -> BkSession
     ensures { SessionBegun result }
 {
-    session_out(Session::new())
+    Session::new().into()
 }
 
 #[unsafe(no_mangle)]
@@ -43,7 +43,7 @@ pub extern "C" fn bk_session_send(
 {
     sent_out(
         session,
-        session_in(session).send(time, Request(code), payload, out),
+        Session::from(session).send(time, Request(code), payload, out),
     )
 }
 
@@ -51,17 +51,17 @@ pub extern "C" fn bk_session_send(
 pub extern "C" fn bk_session_reply_ended(session: BkSession) -> BkSession
     ensures { SessionEnded session result }
 {
-    session_out(session_in(session).reply_ended())
+    Session::from(session).reply_ended().into()
 }
 
 #[tactic(auto, unfolding(crate::specs::Session::awaited_in))]
 fn awaited_in(b: u8) -> Awaited
     ensures { result ≡ awaited_in b }
 {
-    if b == 0 {
-        return Awaited::Nothing;
+    match b {
+        0 => Awaited::Nothing,
+        _ => Awaited::Reply,
     }
-    Awaited::Reply
 }
 
 #[tactic(auto, unfolding(crate::specs::Session::awaited_out))]
@@ -74,46 +74,38 @@ fn awaited_out(awaited: Awaited) -> u8
     }
 }
 
-#[tactic(auto, unfolding(crate::specs::Session::session_in))]
-pub(crate) fn session_in(c: BkSession) -> Session
-    ensures { result ≡ session_in c }
-{
-    Session {
-        last: c.last,
-        wait: c.wait,
-        awaited: awaited_in(c.awaited),
+impl From<BkSession> for Session {
+    ghost from_gives = { λ c r. r ≡ session_in c };
+
+    #[tactic(auto, unfolding(crate::specs::Session::session_in))]
+    fn from(c: BkSession) -> Session {
+        Session {
+            last: c.last,
+            wait: c.wait,
+            awaited: awaited_in(c.awaited),
+        }
     }
 }
 
-#[tactic(auto, unfolding(crate::specs::Session::session_out))]
-pub(crate) fn session_out(session: Session) -> BkSession
-    ensures { result ≡ session_out session }
-{
-    let awaited = session.awaited;
-    BkSession {
-        last: session.last,
-        wait: session.wait,
-        awaited: awaited_out(awaited),
+impl From<Session> for BkSession {
+    ghost from_gives = { λ s r. r ≡ session_out s };
+
+    #[tactic(auto, unfolding(crate::specs::Session::session_out))]
+    fn from(session: Session) -> BkSession {
+        BkSession {
+            last: session.last,
+            wait: session.wait,
+            awaited: awaited_out(session.awaited),
+        }
     }
 }
 
-#[tactic(auto, unfolding(crate::specs::Session::sent_out, crate::specs::Session::sent_by))]
-fn sent_out(was: BkSession, sent: Sent) -> BkSent
+#[tactic(auto, unfolding(crate::specs::Session::sent_out, crate::specs::Answers::written_out))]
+fn sent_out(was: BkSession, sent: Result<Sent, Refusal>) -> BkSent
     ensures { result ≡ sent_out was sent }
 {
-    let answer = sent.answer;
-    let next = sent.session;
-    match answer {
-        Written::Bytes(bytes) => BkSent {
-            session: session_out(next),
-            written: BkWritten { bytes, refusal: 0 },
-        },
-        Written::Refused(q) => BkSent {
-            session: was,
-            written: BkWritten {
-                bytes: 0,
-                refusal: q.number(),
-            },
-        },
+    BkSent {
+        session: sent.map_or(was, |s| s.session.into()),
+        written: sent.map(|s| s.bytes).into(),
     }
 }

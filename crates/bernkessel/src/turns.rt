@@ -1,9 +1,10 @@
 // The gatherer of turns; the cells of the open turn and of the turn just closed are lent.
 ghost use Rattle.std.specs.Prelude.{◌≡◌};
-ghost use Rattle.bernkessel.specs.Turn.{gatherer_in, gatherer_out, gathered_out};
+ghost use Rattle.bernkessel.specs.Turn.{gatherer_in, gatherer_out, gathered_out, row_out};
 ghost use Rattle.bernkessel.specs.Promises.{GathererFresh, SampleGathered, RowIsGathered};
 
-use crate::sample::{BkSample, sample_in};
+use crate::sample::BkSample;
+use paper::refusal::Refusal;
 use turn::gather::{Gathered, Gatherer, RowGathered};
 
 #[repr(C)]
@@ -32,14 +33,14 @@ pub struct BkRowGathered {
 pub extern "C" fn bk_gatherer_new() -> BkGatherer
     ensures { GathererFresh result }
 {
-    gatherer_out(Gatherer::new())
+    Gatherer::new().into()
 }
 
 #[unsafe(no_mangle)]
 pub extern "C" fn bk_gatherer_request(gatherer: BkGatherer) -> BkGatherer
     ensures { GathererFresh result }
 {
-    gatherer_out(gatherer_in(gatherer).request())
+    Gatherer::from(gatherer).request().into()
 }
 
 #[unsafe(no_mangle)]
@@ -53,11 +54,10 @@ pub extern "C" fn bk_gatherer_sample(
 {
     gathered_out(
         gatherer,
-        gatherer_in(gatherer).sample(sample_in(sample), filling, closed),
+        Gatherer::from(gatherer).sample(sample.into(), filling, closed),
     )
 }
 
-#[tactic(auto, unfolding(crate::specs::Turn::row_out))]
 #[unsafe(no_mangle)]
 pub extern "C" fn bk_gatherer_row(
     gatherer: BkGatherer,
@@ -67,49 +67,56 @@ pub extern "C" fn bk_gatherer_row(
 ) -> BkRowGathered
     ensures { RowIsGathered gatherer words.now filling.old closed.old result filling.new closed.new }
 {
-    let row = gatherer_in(gatherer).row(words, filling, closed);
-    let gathered = row.gathered;
-    BkRowGathered {
-        gathered: gathered_out(gatherer, gathered),
-        words: row.words,
+    row_out(
+        gatherer,
+        Gatherer::from(gatherer).row(words, filling, closed),
+    )
+}
+
+impl From<BkGatherer> for Gatherer {
+    ghost from_gives = { λ c r. r ≡ gatherer_in c };
+
+    #[tactic(auto, unfolding(crate::specs::Turn::gatherer_in))]
+    fn from(c: BkGatherer) -> Gatherer {
+        Gatherer { count: c.count }
     }
 }
 
-#[tactic(auto, unfolding(crate::specs::Turn::gatherer_in))]
-pub(crate) fn gatherer_in(c: BkGatherer) -> Gatherer
-    ensures { result ≡ gatherer_in c }
-{
-    Gatherer { count: c.count }
-}
+impl From<Gatherer> for BkGatherer {
+    ghost from_gives = { λ s r. r ≡ gatherer_out s };
 
-#[tactic(auto, unfolding(crate::specs::Turn::gatherer_out))]
-pub(crate) fn gatherer_out(gatherer: Gatherer) -> BkGatherer
-    ensures { result ≡ gatherer_out gatherer }
-{
-    BkGatherer {
-        count: gatherer.count,
+    #[tactic(auto, unfolding(crate::specs::Turn::gatherer_out))]
+    fn from(gatherer: Gatherer) -> BkGatherer {
+        BkGatherer {
+            count: gatherer.count,
+        }
     }
 }
 
 #[tactic(auto, unfolding(crate::specs::Turn::gathered_out))]
-fn gathered_out(was: BkGatherer, gathered: Gathered) -> BkGathered
+fn gathered_out(was: BkGatherer, gathered: Result<Gathered, Refusal>) -> BkGathered
     ensures { result ≡ gathered_out was gathered }
 {
     match gathered {
-        Gathered::Taken(gatherer) => BkGathered {
-            gatherer: gatherer_out(gatherer),
-            turn: 0,
+        Ok(gathered) => BkGathered {
+            gatherer: gathered.gatherer.into(),
+            turn: gathered.turn.unwrap_or(0),
             refusal: 0,
         },
-        Gathered::Closed(gatherer, turn) => BkGathered {
-            gatherer: gatherer_out(gatherer),
-            turn,
-            refusal: 0,
-        },
-        Gathered::Refused(q) => BkGathered {
+        Err(q) => BkGathered {
             gatherer: was,
             turn: 0,
             refusal: q.number(),
         },
+    }
+}
+
+#[tactic(auto, unfolding(crate::specs::Turn::row_out))]
+fn row_out(was: BkGatherer, row: Result<RowGathered, Refusal>) -> BkRowGathered
+    ensures { result ≡ row_out was row }
+{
+    BkRowGathered {
+        gathered: gathered_out(was, row.map(|r| r.gathered)),
+        words: row.map_or(0, |r| r.words),
     }
 }
