@@ -1,2 +1,3 @@
--- Laws of the recorder's stores.
+-- Laws of the recorder's stores, and of the lines that it tells.
 pub mod Made
+pub mod Lines

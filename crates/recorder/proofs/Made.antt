@@ -1,18 +1,16 @@
 -- A store of a ring as one byte and its place: `made_done` and `made_refused`; and what it leaves in the memory: `stored_is`, `stores_on`.
-use Rattle.std.proofs.Common.{◌≡◌, ℕ, ◌+◌, ◌*◌, ◌%◌, ◌<◌, ◌≤◌, List, length, get_or, sym, refl, ap, ◌∙◌, ⊎_elim, add-one, arith, get_or-set_same, le-ltb, lt-ltb}
+use Rattle.std.proofs.Common.{◌≡◌, ℕ, ◌+◌, ◌*◌, ◌%◌, ◌<◌, ◌≤◌, List, Ok, Err, length, get_or, sym, refl, ap, ◌∙◌, ⊎_elim, add-one, arith, get_or-set_same, le-ltb, lt-ltb}
 use lib.ListN.{get_or-eq_default}
 use Rattle.paper.specs.Outcome.{gives, mapped}
+use Rattle.paper.specs.Refusals.{outcome}
 use Rattle.paper.specs.declared.refusal.Refusal.{Refusal}
-use Rattle.paper.specs.declared.refusal.Answer.{Answer}
-use Rattle.paper.specs.declared.refusal.Answer.TheVariants as answer
 use Rattle.ring.specs.Ring.{slots, head_of, IsRing, touched, put, store, stores}
 use Rattle.ring.specs.Answers.{storing}
 use Rattle.ring.specs.Promises.{StoreGiven}
-use Rattle.ring.proofs.Slots.{less_or_not}
+use Rattle.std.proofs.lemmas.Bool.{cases_lt}
 use Rattle.ring.proofs.Answered.{means_done, means_refused, storing_means, given_yes, mapped-gives}
-use Rattle.recorder.specs.Store.{stored_of, StoreMade}
+use Rattle.recorder.specs.Store.{StoreMade}
 use Rattle.recorder.specs.declared.store.Stored.{Stored}
-use Rattle.recorder.specs.declared.store.Stored.TheVariants as stored
 
 pub head_none : (mem : List ℕ) → length mem ≡ 0 → 0 ≡ head_of mem
 head_none mem e = sym (get_or-eq_default mem 0 (omega arith))
@@ -31,42 +29,46 @@ place_within mem k v =
     ⊎_elim
     (λ l. omega (arith, place_byte mem k (head_of mem) l refl, v.size))
     (λ g. omega (arith, place_head mem k g, v.size))
-    (less_or_not k 754)
+    (cases_lt k 754)
 
-module _ {was rec is : List ℕ} {k : ℕ} {a : Answer} (p : StoreGiven slots was rec k a is) where
-  done : a ≡ answer.Done → storing slots was rec k ≡ gives tt
-  done e = means_done p.answer e
+module _ {was rec is : List ℕ} {k : ℕ} (p : StoreGiven slots was rec k (Ok tt) is) where
+  done : storing slots was rec k ≡ gives tt
+  done = means_done p.answer
 
-  pub stored_within : (at : ℕ) → a ≡ answer.Done → at ≡ touched slots was k → at < length was
-  stored_within at e f = omega (arith, f, place_within was k (storing_means slots was rec k (omega arith) (omega arith) (done e)).0)
+  made : is ≡ store slots was rec k
+  made = p.memory ∙ given_yes (λ _. store slots was rec k) was done
 
-  stored_byte : (at : ℕ) → a ≡ answer.Done → at ≡ touched slots was k → get_or is at 0 ≡ put slots was rec k
-  unfolding store
-  stored_byte at e f =
-      ap (λ (m : List ℕ). get_or m at 0) (p.memory ∙ given_yes (λ (t : Unit {0}). store slots was rec k) was (done e))
-      ∙ rw (← f) (get_or-set_same was at (put slots was rec k) 0 (stored_within at e f))
+  module _ (at : ℕ) (e : at ≡ touched slots was k) where
+    within : at < length was
+    within = omega (arith, e, place_within was k (storing_means slots was rec k (omega arith) (omega arith) done).0)
 
-  pub made_done : (at : ℕ) → a ≡ answer.Done → at ≡ touched slots was k → StoreMade slots was rec k (stored.Byte at (get_or is at 0)) is
-  unfolding stored_of mapped
-  made_done at e f = record {
-    answer = rw (done e, stored_byte at e f, f);
-    memory = p.memory;
-  }
+    pub stored_within : length is ≡ length was → at < length is
+    stored_within same = omega (arith, within)
 
-  pub made_refused : {r : Refusal} → a ≡ answer.Refused r → StoreMade slots was rec k (stored.Refused r) is
-  unfolding stored_of mapped
-  made_refused e = record {
-    answer = rw (means_refused p.answer e);
-    memory = p.memory;
-  }
+    stored_byte : get_or is at 0 ≡ put slots was rec k
+    unfolding store
+    stored_byte = ap (λ (m : List ℕ). get_or m at 0) made ∙ rw (← e) (get_or-set_same was at (put slots was rec k) 0 within)
+
+    pub made_done : StoreMade slots was rec k (Ok (record { place = at; byte = get_or is at 0 })) is
+    unfolding outcome mapped
+    made_done = record {
+      answer = rw (done, stored_byte, e);
+      memory = p.memory;
+    }
+
+pub made_refused : {was rec is : List ℕ} {k : ℕ} (r : Refusal) → StoreGiven slots was rec k (Err r) is → StoreMade slots was rec k (Err r) is
+unfolding outcome mapped
+made_refused r p = record {
+  answer = rw (means_refused r p.answer);
+  memory = p.memory;
+}
 
 -- a byte was answered: the store is made
-pub stored_is : {was rec is : List ℕ} {k p b : ℕ} {r : Stored} → StoreMade slots was rec k r is → r ≡ stored.Byte p b → is ≡ store slots was rec k
-unfolding stored_of
-stored_is {was} {rec} {is} {k} {p} {b} m e =
-    let g : stored_of (stored.Byte p b) ≡ gives (record { place = p; byte = b }) = refl in
-    let w = mapped-gives _ (storing slots was rec k) (sym m.answer ∙ ap stored_of e ∙ g) in
-    m.memory ∙ given_yes (λ (t : Unit {0}). store slots was rec k) was w.1
+pub stored_is : {was rec is : List ℕ} {k : ℕ} {s : Stored} → StoreMade slots was rec k (Ok s) is → is ≡ store slots was rec k
+stored_is {was} {rec} {is} {k} {s} m =
+    let g : outcome (Ok s) ≡ gives s = unfold outcome in refl in
+    let w = mapped-gives _ (storing slots was rec k) (sym m.answer ∙ g) in
+    m.memory ∙ given_yes (λ _. store slots was rec k) was w.1
 
 -- one store more
 pub stores_on : (was rec : List ℕ) (k : ℕ) {mid is : List ℕ} → mid ≡ stores slots was rec k → is ≡ store slots mid rec k → is ≡ stores slots was rec (k + 1)

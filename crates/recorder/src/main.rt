@@ -2,18 +2,21 @@
 #![tactic(auto)]
 
 mod argument;
+mod end;
 mod file;
 mod scan;
 mod show;
 mod store;
 
-use paper::refusal::Answer;
-use program::input::{is_readable, keep_standard, read_whole};
-use program::output::{STDERR, failed, print, print_number, tell};
-use program::word::{Word, arg_count, print_version, said, too_long};
+use end::End;
+use program::Program;
+use program::input::read_whole;
+use program::output::{STDERR, Said};
+use program::word::{Word, too_long};
+use ringfile::{RingFile, real_path};
+use scan::Recorder;
 use std::env::FillError;
 use std::fs::File;
-use std::io::Error;
 use std::os::fd::AsRawFd;
 use std::rt::Env;
 
@@ -25,119 +28,121 @@ fn usage() {
     io::write_all(STDERR, USAGE);
 }
 
-// Says why a turn was not taken: the file's reason, or that the host refused it.
-fn say_not_taken(path: &[u8], why: Option<Error>) {
-    match why {
-        Some(why) => failed(b"recorder", path, why),
-        None => tell(STDERR, b"recorder", path, b"a turn is refused"),
-    }
-}
-
-// The file holds these bytes. What is no ring, or has a turn that does not read, stays as it is. A recording whose reader has left says no more.
-fn add_to(
-    rt: &HostRuntime,
-    file: &File,
-    path: &[u8],
-    image: &mut [u8],
+// What the program is to do: the ring that it adds to, the serial of the records, and whether it tells of each turn.
+#[derive(Clone, Copy)]
+struct Task<'a> {
+    ring: RingFile<'a>,
     serial: [u8; 16],
     verbose: bool,
-) {
-    let a = ring::all_read(image);
-    if let Answer::Refused(r) = a {
-        print_number(rt, b"recorder", b"refused", r.number() as u64);
-        return;
-    }
-    if !ringfile::make_sure(rt, b"recorder", path, file, store::head(image)) {
-        return;
-    }
-    let mut was = io::buffer();
-    let n = ringfile::real_path(rt, file.as_raw_fd(), &mut was);
-    let r = scan::keep_all(rt, file, image, serial, verbose);
-    if r.left {
-        return;
-    }
-    if !r.sound {
-        say_not_taken(path, r.why);
-    }
-    say_moved(rt, file, path, &was[..n]);
-    print_number(rt, b"recorder", b"kept", r.kept);
 }
 
-// Says where the file has another name by now than the one it had.
-fn say_moved(rt: &HostRuntime, file: &File, path: &[u8], was: &[u8]) {
-    let mut is = io::buffer();
-    let n = ringfile::real_path(rt, file.as_raw_fd(), &mut is);
-    if !check::same(&is[..n], was) {
-        tell(
-            STDERR,
-            b"recorder",
-            path,
-            b"it was removed or renamed meanwhile, and the turns are in the file that it was",
-        );
+impl Task<'_> {
+    // Says where the file has another name by now than the one it had.
+    fn say_moved(self, file: &File, was: &[u8]) {
+        let mut room = io::buffer();
+        let program = self.ring.program;
+        let is = real_path(program.rt, file.as_raw_fd(), &mut room).unwrap_or(b"");
+        if is != was {
+            program.tell(
+                STDERR,
+                self.ring.path,
+                b"it was removed or renamed meanwhile, and the turns are in the file that it was",
+            );
+        }
+    }
+
+    // The file holds these bytes. What is no ring, or has a turn that does not read, stays as it is. A recording whose reader has left says no more.
+    fn add_to(self, file: &File, image: &mut [u8]) -> Result<(), Said> {
+        let RingFile { program, path } = self.ring;
+        if let Err(r) = ring::all_read(image) {
+            program.print_number(b"refused", u64::from(r.number()));
+            return Err(Said);
+        }
+        self.ring.make_sure(file, store::head(image))?;
+        let mut room = io::buffer();
+        let was = real_path(program.rt, file.as_raw_fd(), &mut room).unwrap_or(b"");
+        let mut recorder = Recorder::new(self, file, image);
+        match recorder.take_all() {
+            Ok(()) => {}
+            Err(End::Left) => return Err(Said),
+            Err(End::Refused(_)) => program.tell(STDERR, path, b"a turn is refused"),
+            Err(End::Failed(why)) => program.failed(path, why),
+        }
+        self.say_moved(file, was);
+        program.print_number(b"kept", recorder.kept);
+        Ok(())
+    }
+
+    // Adds to the file as it is.
+    fn add(self, file: &File) -> Result<(), Said> {
+        let mut image = [0u8; ringfile::LONGER];
+        let mut from = file;
+        match read_whole(&mut from, &mut image) {
+            Ok(n) => self.add_to(file, &mut image[..n]),
+            Err(broken) => {
+                self.ring.program.failed(self.ring.path, broken.why);
+                Err(Said)
+            }
+        }
+    }
+
+    // The ring that the path names.
+    fn record(self) -> Result<(), Said> {
+        if !self.ring.program.is_readable() {
+            return Err(Said);
+        }
+        let file = self.ring.open_or_make()?;
+        self.add(&file)
     }
 }
 
-fn add(rt: &HostRuntime, file: &File, path: &[u8], serial: [u8; 16], verbose: bool) {
-    let mut image = [0u8; ringfile::LONGER];
-    let mut from = file;
-    let got = read_whole(&mut from, &mut image);
-    let n = got.bytes;
-    if let Some(why) = got.why {
-        failed(b"recorder", path, why);
-        return;
-    }
-    add_to(rt, file, path, &mut image[..n], serial, verbose);
-}
-
-// The ring that a path names.
-fn record_in(rt: &HostRuntime, path: &[u8], serial: [u8; 16], verbose: bool) {
-    if !is_readable(rt, b"recorder") {
-        return;
-    }
-    if let Some(file) = ringfile::open_or_make(rt, b"recorder", path) {
-        add(rt, &file, path, serial, verbose);
-    }
-}
-
-// The ring and the serial by the numbers of their words, and how many words there may be. No message goes before the look at where messages go.
-fn record_asked(rt: &HostRuntime, ring: usize, serial: usize, most: usize, verbose: bool) {
-    let mut path = io::buffer();
-    let n = match rt.arg(ring, &mut path) {
+// The ring and the serial that the words name, behind the word for verbose. No message goes before the look at where messages go.
+fn record_asked(program: Program<'_>, verbose: bool) {
+    let first = if verbose { 2 } else { 1 };
+    let mut room = io::buffer();
+    let n = match program.rt.arg(first, &mut room) {
         Ok(n) => n,
         Err(FillError::NotPresent) => 0,
-        Err(FillError::TooLong) => {
-            failed(b"recorder", b"RING", too_long());
-            return;
-        }
+        Err(FillError::TooLong) => return program.failed(b"RING", too_long()),
     };
-    if !ringfile::is_no_output(rt, b"recorder", &path[..n]) {
+    let path = &room[..n];
+    let ring = RingFile { program, path };
+    if !ring.is_no_output() {
         return;
     }
-    let given = argument::serial_of(rt, serial);
-    let bytes = given.bytes;
-    if n == 0 || !given.reads || arg_count(rt) > most {
-        usage();
-        return;
+    match argument::serial_of(program, first + 1) {
+        Some(serial) if n > 0 && program.arg_count() <= first + 2 => {
+            let task = Task {
+                ring,
+                serial,
+                verbose,
+            };
+            let _ = task.record();
+        }
+        _ => usage(),
     }
-    record_in(rt, &path[..n], bytes, verbose);
 }
 
 fn main(rt: HostRuntime) {
-    if !keep_standard(&rt, b"recorder") {
+    let program = Program {
+        rt: &rt,
+        name: b"recorder",
+    };
+    if program.keep_standard().is_err() {
         return;
     }
-    match said(&rt, 1) {
+    match program.word(1) {
         Word::Help => {
-            print(&rt, b"recorder", USAGE);
+            program.print(USAGE);
         }
         Word::Version => {
-            print_version(&rt, b"recorder");
+            program.print_version();
         }
-        Word::Verbose => match said(&rt, 2) {
-            Word::Plain => record_asked(&rt, 2, 3, 4, true),
+        Word::Verbose => match program.word(2) {
+            Word::Plain => record_asked(program, true),
             _ => usage(),
         },
-        Word::Plain => record_asked(&rt, 1, 2, 3, false),
+        Word::Plain => record_asked(program, false),
         Word::Unknown => usage(),
     }
 }

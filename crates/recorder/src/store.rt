@@ -3,22 +3,19 @@ ghost use Rattle.std.specs.Prelude.{◌≡◌, ◌<◌};
 ghost use Rattle.ring.specs.Ring.{slots, head_of, touched};
 ghost use Rattle.recorder.specs.Store.{StoreMade};
 
-use paper::refusal::{Answer, Refusal};
+use paper::refusal::Refusal;
 
-#[derive(Drop)]
-pub enum Stored {
-    Byte(u16, u8),
-    Refused(Refusal),
+#[derive(Clone, Copy, Debug, PartialEq, Eq)]
+pub struct Stored {
+    pub place: u16,
+    pub byte: u8,
 }
 
 // The head of a ring.
 pub fn head(mem: &[u8]) -> u8
     ensures { result ≡ head_of mem.now }
 {
-    if mem.len() == 0 {
-        return 0;
-    }
-    mem[0]
+    mem.first().copied().unwrap_or(0)
 }
 
 // The place that store k touches.
@@ -33,13 +30,14 @@ fn place(mem: &[u8], k: usize) -> usize
 }
 
 // Makes store k in the memory.
-pub fn make(mem: &mut [u8], rec: &[u8], k: usize) -> Stored
+#[tactic(auto, using(crate::proofs::Made::stored_within, crate::proofs::Made::made_done))]
+pub fn make(mem: &mut [u8], rec: &[u8], k: usize) -> Result<Stored, Refusal>
     ensures { StoreMade slots mem.old rec.now k result mem.new }
 {
     let at = place(mem, k);
-    let a = ring::store(mem, rec, k);
-    match a {
-        Answer::Done => Stored::Byte(at as u16, mem[at]),
-        Answer::Refused(r) => Stored::Refused(r),
-    }
+    ring::store(mem, rec, k)?;
+    Ok(Stored {
+        place: at as u16,
+        byte: mem[at],
+    })
 }

@@ -1,5 +1,5 @@
 use Rattle.recorder.proofs.Made.{stored_is}
 use Rattle.recorder.proofs.file.put.Goals as goal
 
-pub returns-in-Ok : goal.returns-in-Ok
-returns-in-Ok c = λ e. stored_is c.make-s.ensures c.in-Byte.is
+pub returns : goal.returns
+returns c = stored_is c.in_ok-stored.ensures
