@@ -31,6 +31,16 @@ width_pos InfoReply = omega arith
 width_pos HealthReply = omega arith
 width_pos Scanning = omega arith
 
+pub width_most : (p : Phase) → width p ≤ 20
+unfolding width
+width_most Idle = omega arith
+width_most SeekInfo = omega arith
+width_most SeekHealth = omega arith
+width_most SeekScan = omega arith
+width_most InfoReply = omega arith
+width_most HealthReply = omega arith
+width_most Scanning = omega arith
+
 pub reader_lawful : Lawful reader
 reader_lawful = staged_lawful looks follows (λ p. windowed_within (width p) (says p) 0 (width_pos p))
 

@@ -5,4 +5,3 @@ pub mod Joint
 pub mod Seek
 pub mod Reply
 pub mod Scan
-pub mod Tell

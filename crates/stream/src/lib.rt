@@ -2,7 +2,6 @@
 
 #![tactic(auto)]
 
-mod held;
 mod hold;
 mod reply;
 mod scan;
@@ -15,11 +14,10 @@ ghost use Rattle.stream.specs.Promises.{Made, Reads, Tells};
 
 use paper::refusal::Refusal;
 use wire::descriptor::Descriptor;
-use wire::reply::{Health, Info};
 use wire::request::Request;
 
 // What the reader waits for.
-#[derive(Clone, Copy)]
+#[derive(Clone, Copy, Debug, PartialEq, Eq)]
 pub enum Phase {
     Idle,
     SeekInfo,
@@ -31,7 +29,7 @@ pub enum Phase {
 }
 
 // Why a call stopped.
-#[derive(Clone, Copy)]
+#[derive(Clone, Copy, Debug, PartialEq, Eq)]
 pub enum Stop {
     AllTaken,
     NoRoom,
@@ -41,7 +39,7 @@ pub enum Stop {
 }
 
 // A reader: its phase, the first n bytes of `held`, and how many bytes it skipped.
-#[derive(Clone, Copy)]
+#[derive(Clone, Copy, Debug, PartialEq, Eq)]
 pub struct Reader {
     pub phase: Phase,
     pub n: u8,
@@ -50,7 +48,7 @@ pub struct Reader {
 }
 
 // What a call answers: the reader after it, bytes taken, words written, why it stopped, and the reply at stop 3.
-#[derive(Clone, Copy)]
+#[derive(Clone, Copy, Debug, PartialEq, Eq)]
 pub struct Reading {
     pub reader: Reader,
     pub taken: usize,
@@ -61,10 +59,11 @@ pub struct Reading {
 
 impl Reader {
     // A fresh reader is idle.
+    #[tactic(auto, unfolding(crate::specs::State::idle, crate::specs::State::written, crate::specs::State::capped, crate::specs::inner::Hold::holding))]
     pub fn new() -> Reader
         ensures { Made result }
     {
-        hold::empty(Phase::Idle, 0)
+        Reader::empty(Phase::Idle, 0)
     }
 
     // It is told each request sent; a code not of the six is refused.
@@ -72,34 +71,25 @@ impl Reader {
         ensures { Tells self request result }
     {
         let phase = tell::opening(request.kind())?;
-        Ok(tell::turned(self, phase))
+        Ok(self.turned(phase))
     }
 
     // One call: any input, any row of words.
     pub fn read(self, input: &[u8], words: &mut [u16]) -> Reading
         ensures { Reads self input.now words.old result words.new }
     {
-        let phase = self.phase;
-        let n = self.n;
-        let held = self.held;
-        let skipped = self.skipped;
-        match phase {
-            Phase::Idle => reply::idle(skipped, input),
-            Phase::SeekInfo => {
-                let next = Phase::InfoReply;
-                held::find(n, &held, skipped, phase, next, &Descriptor::INFO, input)
-            }
-            Phase::SeekHealth => {
-                let next = Phase::HealthReply;
-                held::find(n, &held, skipped, phase, next, &Descriptor::HEALTH, input)
-            }
-            Phase::SeekScan => {
-                let next = Phase::Scanning;
-                held::find(n, &held, skipped, phase, next, &Descriptor::SCAN, input)
-            }
-            Phase::InfoReply => held::gather(n, &held, skipped, phase, Info::BYTES, input),
-            Phase::HealthReply => held::gather(n, &held, skipped, phase, Health::BYTES, input),
-            Phase::Scanning => held::scan(n, &held, skipped, input, words),
+        match self.phase {
+            Phase::Idle => reply::idle(&self, input),
+            Phase::SeekInfo => seek::seeking(&self, Phase::InfoReply, &Descriptor::INFO, input),
+            Phase::SeekHealth => seek::seeking(
+                &self,
+                Phase::HealthReply,
+                &Descriptor::HEALTH,
+                input,
+            ),
+            Phase::SeekScan => seek::seeking(&self, Phase::Scanning, &Descriptor::SCAN, input),
+            Phase::InfoReply | Phase::HealthReply => reply::gather(&self, input),
+            Phase::Scanning => scanning::scanning(&self, input, words),
         }
     }
 }

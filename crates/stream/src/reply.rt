@@ -1,10 +1,12 @@
 // Replies, and an idle reader.
 ghost use Rattle.std.specs.Prelude.{List, ◌≡◌, ℕ, ◌≤◌, length, take};
 ghost use Rattle.stream.specs.declared.Phase.TheVariants.{Idle};
-ghost use Rattle.stream.specs.inner.Account.{Comes};
-ghost use Rattle.stream.specs.inner.Reply.{bad, Replies};
+ghost use Rattle.stream.specs.Promises.{Reads};
+ghost use Rattle.stream.specs.Table.{width};
+ghost use Rattle.stream.specs.inner.Reply.{bad, Awaits};
 
-use crate::{Phase, Reading, Stop, hold};
+use crate::hold::{join, more_skipped};
+use crate::{Phase, Reader, Reading, Stop};
 use wire::reply::Health;
 
 // A reply of three bytes is a health reply, and may not read.
@@ -15,55 +17,46 @@ fn is_bad(need: usize, joint: &[u8]) -> bool
     need == Health::BYTES && Health::read(&joint[..Health::BYTES]).is_err()
 }
 
-// `joint` is the h bytes held and those of the input that the reply still needs, or as many as there are.
-pub(crate) fn replying(
-    phase: Phase,
-    need: usize,
-    joint: [u8; 20],
-    h: usize,
-    skipped: u32,
-    input: &[u8],
-) -> Reading
-    requires { Replies phase need joint h input.now }
-    ensures { (ws : List ℕ) → Comes phase h joint input.now skipped ws ws result }
+// In a phase that awaits a reply: the bytes held and those of the input that it still needs, or as many as there are.
+pub(crate) fn gather(reader: &Reader, input: &[u8]) -> Reading
+    requires { Awaits reader.now.phase (width reader.now.phase) }
+    ensures { (ws : List ℕ) → Reads reader.now input.now ws result ws }
 {
-    let rest = need - h;
+    let skipped = reader.skipped;
+    let need = reader.phase.wide();
+    let held = reader.bytes_held(need);
+    let rest = need - held.len();
     if input.len() < rest {
-        let n = h + input.len();
-        return Reading {
-            reader: hold::hold(phase, &joint[..n], skipped),
-            taken: input.len(),
-            words: 0,
-            stop: Stop::AllTaken,
-            reply: [0u8; 20],
+        let mut joint = [0u8; 20];
+        join(&mut joint, held, input);
+        let more = Reader {
+            n: (held.len() + input.len()) as u8,
+            held: joint,
+            ..*reader
         };
+        return Reading::stopping(more, input.len(), Stop::AllTaken);
     }
-    if is_bad(need, &joint) {
-        return Reading {
-            reader: hold::empty(Phase::Idle, hold::more_skipped(skipped, need)),
-            taken: rest,
-            words: 0,
-            stop: Stop::BadHealth,
-            reply: [0u8; 20],
-        };
+    let mut reply = [0u8; 20];
+    join(&mut reply, held, &input[..rest]);
+    if is_bad(need, &reply) {
+        let idle = Reader::empty(Phase::Idle, more_skipped(skipped, need));
+        return Reading::stopping(idle, rest, Stop::BadHealth);
     }
+    let idle = Reader::empty(Phase::Idle, skipped);
     Reading {
-        reader: hold::empty(Phase::Idle, skipped),
-        taken: rest,
-        words: 0,
-        stop: Stop::Reply,
-        reply: joint,
+        reply,
+        ..Reading::stopping(idle, rest, Stop::Reply)
     }
 }
 
-pub(crate) fn idle(skipped: u32, input: &[u8]) -> Reading
-    ensures { (held ws : List ℕ) → Comes Idle 0 held input.now skipped ws ws result }
+pub(crate) fn idle(reader: &Reader, input: &[u8]) -> Reading
+    requires { reader.now.phase ≡ Idle }
+    ensures { (ws : List ℕ) → Reads reader.now input.now ws result ws }
 {
-    Reading {
-        reader: hold::empty(Phase::Idle, hold::more_skipped(skipped, input.len())),
-        taken: input.len(),
-        words: 0,
-        stop: Stop::AllTaken,
-        reply: [0u8; 20],
-    }
+    let skipped = more_skipped(reader.skipped, input.len());
+    Reading::stopping(
+        Reader::empty(Phase::Idle, skipped),
+        input.len(),
+        Stop::AllTaken,
+    )
 }

@@ -1,56 +1,42 @@
-// Seeking a descriptor.
-ghost use Rattle.std.specs.Prelude.{List, ◌≡◌, ◌&&◌, ℕ, ◌+◌, ◌≤◌, eqb, length};
-ghost use Rattle.stream.specs.inner.Account.{Comes};
-ghost use Rattle.stream.specs.inner.Joint.{Joins, Placed};
-ghost use Rattle.stream.specs.inner.Seek.{Seeks, near_by, Sought, Searched, SoughtTo, seek_answer};
+// Seeking a descriptor. Places are counted from the start of a part and not from one another, so functions take the part and a place in it.
+ghost use Rattle.std.specs.Prelude.{List, ◌≡◌, ℕ, ◌+◌, ◌≤◌, length};
+ghost use Rattle.std.specs.Result.{is_ok};
+ghost use Rattle.stream.specs.Promises.{Reads};
+ghost use Rattle.stream.specs.State.{capped};
+ghost use Rattle.stream.specs.inner.Joint.{Placed};
+ghost use Rattle.stream.specs.inner.Seek.{Seeks, near_by, Sought, Searched, SoughtTo, place_of, seek_answer};
 
-use crate::{Phase, Reading, Stop, hold};
+use crate::hold::{Joint, more_skipped};
+use crate::{Phase, Reader, Reading, Stop};
+
+// A descriptor's bytes, and all of them but the last.
+pub(crate) const BYTES: usize = 7;
+
+const ALL_BUT_ONE: usize = BYTES - 1;
 
 // So many places are passed over at once.
 const BLOCK: usize = 32;
 
-// The first place at which the seven bytes stand, or the first at which there are too few.
-#[derive(Clone, Copy)]
-pub struct Match {
-    pub at: usize,
-    pub found: bool,
-}
-
-// Do two bytes stand side by side?
-fn beside(a: u8, b: u8, first: u8, second: u8) -> bool
-    ensures { result ≡ (eqb a first && eqb b second) }
-{
-    if a != first {
-        return false;
-    }
-    b == second
-}
-
-// Do the first two of the seven stand at one of the places of a block? No place waits for another, so that all are looked at together.
+// Do the first two of the seven stand at one of the places of a block? No place and no byte waits for another (`|=` and `&`), so that all are
+// looked at together.
 fn is_near(head: &[u8; 7], part: &[u8], at: usize) -> bool
     requires { at + 33 ≤ length part.now }
     ensures { result ≡ near_by head.now part.now at 32 }
 {
-    let first = head[0];
-    let second = head[1];
     let mut near = false;
-    let mut k: usize = 0;
-    while k < BLOCK {
-        if beside(part[at + k], part[at + k + 1], first, second) {
-            near = true;
-        }
-        k += 1;
+    for k in 0..BLOCK {
+        near |= (part[at + k] == head[0]) & (part[at + k + 1] == head[1]);
     }
     near
 }
 
-// Past blocks of places at none of which the first two of the seven stand.
+// Past blocks of places at none of which the first two of the seven stand. A `while`: a `for` by blocks would not tell where the last one ends.
 fn pass_over(head: &[u8; 7], part: &[u8], from: usize) -> usize
     requires { from + 6 ≤ length part.now }
     ensures { Sought head.now part.now from result × (result + 6 ≤ length part.now) }
 {
     let mut at = from;
-    while BLOCK + 6 <= part.len() - at {
+    while BLOCK + ALL_BUT_ONE <= part.len() - at {
         if is_near(head, part, at) {
             return at;
         }
@@ -59,91 +45,80 @@ fn pass_over(head: &[u8; 7], part: &[u8], from: usize) -> usize
     at
 }
 
-// Places one by one as far as `last`, seven bytes at each, left at the first match.
-fn search(head: &[u8; 7], part: &[u8], from: usize, last: usize) -> Match
+// The first place before `last` at which the seven stand. The scope paper names the form: a loop over places, in it one over seven bytes, and
+// a label.
+fn search(head: &[u8; 7], part: &[u8], from: usize, last: usize) -> Option<usize>
     requires { (from ≤ last) × (last + 6 ≤ length part.now) }
-    ensures { Searched head.now part.now from last result.at result.found }
+    ensures { Searched head.now part.now from last result }
 {
-    let mut at = from;
-    let mut found = false;
-    'places: while at < last {
-        let mut k = 0;
-        while part[at + k] == head[k] {
-            k += 1;
-            if k == 7 {
-                found = true;
-                break 'places;
+    'places: for at in from..last {
+        for k in 0..BYTES {
+            if part[at + k] != head[k] {
+                continue 'places;
             }
         }
-        at += 1;
+        return Some(at);
     }
-    Match { at, found }
+    None
 }
 
-// Blocks are passed over where that can be, and the places of the next one searched.
-fn seek(head: &[u8; 7], part: &[u8], from: usize) -> Match
+// The first place at which the seven stand, or else the first at which there are too few bytes. Blocks are passed over where that can be, and
+// the places of the next one searched. A `while`: how far a turn goes is known only then.
+fn seek(head: &[u8; 7], part: &[u8], from: usize) -> Result<usize, usize>
     requires { from ≤ length part.now }
-    ensures { SoughtTo head.now part.now from result.at result.found }
+    ensures { SoughtTo head.now part.now from result }
 {
     let mut at = from;
-    while 7 <= part.len() - at {
+    while BYTES <= part.len() - at {
         let near = pass_over(head, part, at);
-        let last = hold::least(near + BLOCK, part.len() - 6);
-        let m = search(head, part, near, last);
-        if m.found {
-            return m;
+        let last = (near + BLOCK).min(part.len() - ALL_BUT_ONE);
+        if let Some(place) = search(head, part, near, last) {
+            return Ok(place);
         }
-        at = m.at;
+        at = last;
     }
-    Match { at, found: false }
+    Err(at)
 }
 
-fn answer(phase: Phase, next: Phase, part: &[u8], place: Match, h: usize, skipped: u32) -> Reading
-    requires { Placed 6 part.now place.at place.found h }
-    ensures { result ≡ seek_answer phase next part.now place.at place.found h skipped }
-{
-    let at = place.at;
-    if place.found {
-        return Reading {
-            reader: hold::empty(next, skipped),
-            taken: at + 7 - h,
-            words: 0,
-            stop: Stop::Descriptor,
-            reply: [0u8; 20],
-        };
-    }
-    Reading {
-        reader: hold::hold(phase, &part[at..], skipped),
-        taken: part.len() - h,
-        words: 0,
-        stop: Stop::AllTaken,
-        reply: [0u8; 20],
-    }
-}
-
-// `part` is the h bytes held and the first six of the input.
-pub(crate) fn seeking(
-    phase: Phase,
+// The answer where seeking stands in a part whose first h bytes were held, and that so many held ones come before.
+fn answer(
+    reader: &Reader,
     next: Phase,
-    head: &[u8; 7],
     part: &[u8],
+    place: Result<usize, usize>,
     h: usize,
-    skipped: u32,
-    input: &[u8],
+    before: usize,
 ) -> Reading
-    requires { Joins 6 part.now h input.now × Seeks phase head.now next }
-    ensures { (ws : List ℕ) → Comes phase h part.now input.now skipped ws ws result }
+    requires placed { Placed 6 part.now (place_of place) (is_ok place) h }
+    requires few { before ≤ 6 }
+    ensures { result ≡ seek_answer reader.now.phase next part.now place h (capped (reader.now.skipped + (before + place_of place))) }
 {
+    match place {
+        Ok(at) => {
+            let found = Reader::empty(next, more_skipped(reader.skipped, before + at));
+            Reading::stopping(found, at + BYTES - h, Stop::Descriptor)
+        }
+        Err(at) => {
+            let skipped = more_skipped(reader.skipped, before + at);
+            let rest = Reader::holding(reader.phase, &part[at..], skipped);
+            Reading::stopping(rest, part.len() - h, Stop::AllTaken)
+        }
+    }
+}
+
+// The bytes held and the first six of the input are a part of their own.
+pub(crate) fn seeking(reader: &Reader, next: Phase, head: &[u8; 7], input: &[u8]) -> Reading
+    requires { Seeks reader.now.phase head.now next }
+    ensures { (ws : List ℕ) → Reads reader.now input.now ws result ws }
+{
+    let joint = Joint::new(reader, BYTES, input);
+    let part = &joint.bytes[..joint.end];
     let first = seek(head, part, 0);
-    let k = hold::more_skipped(skipped, first.at);
-    if first.found {
-        return answer(phase, next, part, first, h, k);
+    match first {
+        Err(at) if ALL_BUT_ONE < input.len() => {
+            let second = seek(head, input, at - joint.held);
+            answer(reader, next, input, second, 0, joint.held)
+        }
+        _ => answer(reader, next, part, first, joint.held, 0),
     }
-    if input.len() <= 6 {
-        return answer(phase, next, part, first, h, k);
-    }
-    let from = first.at - h;
-    let second = seek(head, input, from);
-    let n = hold::more_skipped(k, second.at - from);
-    answer(phase, next, input, second, 0, n)
 }

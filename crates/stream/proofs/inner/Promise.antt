@@ -1,4 +1,4 @@
--- What a call comes to is its promise: `comes_reads`, from a reader's held bytes and plain lists; `comes` makes such an account.
+-- What a call comes to is its promise: `comes_reads`, from a reader's held bytes and plain lists (`Comes`); `comes` makes such an account.
 use mathlib.Core.Path.{◌≡◌, refl, sym, ap, ◌∙◌}
 use mathlib.Core.List.{List, [], ◌∷◌, ◌++◌, append_assoc, flat_map}
 use Prim.Native.Nat.{ℕ, suc, ◌+◌, ◌-◌, ◌≤◌, ◌<◌, min}
@@ -19,10 +19,10 @@ use Rattle.stream.specs.declared.Phase.{Phase}
 use Rattle.stream.specs.declared.Reader.{Reader}
 use Rattle.stream.specs.declared.Reading.{Reading}
 use Rattle.stream.specs.Table.{Event, Thing, headed, replied, unread, point, width, reader, giving, words_for, row_of}
-use Rattle.stream.specs.State.{held_of, meaning}
+use Rattle.stream.specs.State.{held_of, meaning, twenty, written}
 use Rattle.stream.specs.Stops.{stop_number}
 use Rattle.stream.specs.Promises.{called, row_given, Reads}
-use Rattle.stream.specs.inner.Account.{put, Account, account, comes_to, reading_of, Comes}
+use Rattle.stream.specs.inner.Account.{put, Account, account, comes_to}
 use Rattle.stream.proofs.Table.{width_pos, reader_lawful, by_window}
 
 -- ---- the row of words
@@ -73,6 +73,15 @@ put_eq ws u (point m ∷ xs) h =
 
 -- ---- the promise
 
+-- the answer of a call that came to o, counted from the h bytes held
+unfoldable pub reading_of : ℕ → Account → Reading
+reading_of h o = record { reader = written o.end o.skipped; taken = o.taken - h; words = o.used; stop = o.stop; reply = twenty o.reply }
+
+-- the promise over plain lists: of a reader in phase p that holds the first h bytes of `held`, k skipped
+pub record Comes (p : Phase) (h : ℕ) (held input : List ℕ) (k : ℕ) (ws ws' : List ℕ) (r : Reading) : Type 0 where
+  pub answer : reading_of h (comes_to (fresh p) (take h held ++ input) 0 k 0 ws) ≡ r
+  pub rows : (comes_to (fresh p) (take h held ++ input) 0 k 0 ws).words ≡ ws'
+
 -- fewer bytes are held than are looked at together
 pub held_few : (r : Reader) → length (held_of r) < width r.phase
 unfolding held_of
@@ -107,7 +116,7 @@ module _ (self : Reader) (input was : List ℕ) where
   whole_words = put_eq was 0 a.given (omega (arith, row_fits)) ∙ rw zero-add
 
   -- what the bytes held and those of the input come to is the promise
-  reads_by : (o : Account) → comes_to (fresh self.phase) (held_of self ++ input) 0 self.skipped 0 was ≡ o
+  pub reads_by : (o : Account) → comes_to (fresh self.phase) (held_of self ++ input) 0 self.skipped 0 was ≡ o
       → (r : Reading) (is : List ℕ) → reading_of (length (held_of self)) o ≡ r → o.words ≡ is → Reads self input was r is
   unfolding account reading_of row_given
   reads_by o e r is f g =

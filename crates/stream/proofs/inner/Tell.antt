@@ -1,8 +1,5 @@
--- Being told a request, as code does it: `turned_to` for what is taken, `tells_taken` and `tells_refused` for the promise.
+-- Being told a request, as code does it: `tells_taken` and `tells_refused` for the promise.
 use mathlib.Core.Path.{◌≡◌, sym, ap, ◌∙◌}
-use mathlib.Core.List.{[]}
-use Prim.Native.Nat.{ℕ, ◌+◌, ◌-◌, ◌<◌, min}
-use lib.ListN.{length, take}
 use Rattle.std.specs.Prelude.{Ok, Err}
 use Rattle.paper.specs.Outcome.{gives, refuses, mapped}
 use Rattle.paper.specs.Refusals.{outcome}
@@ -12,20 +9,8 @@ use Rattle.wire.specs.declared.request.Kind.{Kind}
 use Rattle.wire.specs.Promises.{KindGiven}
 use Rattle.stream.specs.declared.Phase.{Phase}
 use Rattle.stream.specs.declared.Reader.{Reader}
-use Rattle.stream.specs.Table.{width}
-use Rattle.stream.specs.State.{held_of, capped, written}
 use Rattle.stream.specs.Telling.{opening, opens, begun}
 use Rattle.stream.specs.Promises.{Tells}
-use Rattle.stream.specs.inner.Hold.{holding}
-use Rattle.stream.specs.inner.Tell.{Wide}
-
-pub wide_of : {p : Phase} {n : ℕ} (q : Phase) → p ≡ q → n ≡ width q → 0 < n → Wide p n
-wide_of q e f g = record { is = f ∙ ap width (sym e); pos = g }
-
-pub turned_to : (self : Reader) (p : Phase) (w h k : ℕ) (r : Reader) → Wide self.phase w → h ≡ length (take (min self.n (w - 1)) self.held) → k ≡ capped (self.skipped + h)
-    → r ≡ holding p [] k → r ≡ begun self p
-unfolding written holding held_of
-turned_to self p w h k r a b c d = rw (d, c, b, a.is)
 
 -- a request that is taken, and one that is refused
 pub tells_taken : (self : Reader) (q : Request) {kind : Kind} (p : Phase) {r : Reader} → KindGiven q kind → outcome (Ok p) ≡ opening kind → r ≡ begun self p → Tells self q (Ok r)

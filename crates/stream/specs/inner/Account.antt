@@ -1,5 +1,5 @@
 -- The account of a call from a place on, added to what was done before it: the form in which code meets a call.
-use Rattle.std.specs.Prelude.{◌≡◌, ℕ, ◌+◌, ◌-◌, length, take, drop}
+use Rattle.std.specs.Prelude.{◌≡◌, ℕ, ◌+◌, ◌-◌, length, drop}
 use mathlib.Core.List.{List, [], ◌∷◌, ◌++◌, flat_map}
 use Rattle.std.proofs.lemmas.List.Edits.{sets}
 use Rattle.framing.specs.Framing.{State, fresh}
@@ -8,9 +8,7 @@ use Rattle.framing.specs.Calls.{Answer, call}
 use Rattle.wire.specs.Sample.{words_of}
 use Rattle.stream.specs.declared.Phase.{Phase}
 use Rattle.stream.specs.declared.Stop.{Stop}
-use Rattle.stream.specs.declared.Reading.{Reading}
 use Rattle.stream.specs.Table.{Event, Thing, headed, replied, unread, point, reader, giving, row_of}
-use Rattle.stream.specs.State.{twenty, written}
 use Rattle.stream.specs.Stops.{stop_of, reply_for}
 
 -- the words of things, stored from u on
@@ -50,12 +48,3 @@ comes_to s xs t k u ws = account t k u ws (call reader giving s [] xs (length ws
 -- words go from u in ws to v in vs.
 pub record Moves (p : Phase) (part : List ℕ) (b i k u : ℕ) (ws : List ℕ) (v : ℕ) (vs : List ℕ) : Type 0 where
   pub go : (ys : List ℕ) (t j : ℕ) → comes_to (fresh p) (drop b part ++ ys) (t + b) j u ws ≡ comes_to (fresh p) (drop i part ++ ys) (t + i) (j + k) v vs
-
--- the answer of a call that came to o, counted from the h bytes held
-unfoldable pub reading_of : ℕ → Account → Reading
-reading_of h o = record { reader = written o.end o.skipped; taken = o.taken - h; words = o.used; stop = o.stop; reply = twenty o.reply }
-
--- the promise over plain lists: of a reader in phase p that holds the first h bytes of `held`, k skipped
-pub record Comes (p : Phase) (h : ℕ) (held input : List ℕ) (k : ℕ) (ws ws' : List ℕ) (r : Reading) : Type 0 where
-  pub answer : reading_of h (comes_to (fresh p) (take h held ++ input) 0 k 0 ws) ≡ r
-  pub rows : (comes_to (fresh p) (take h held ++ input) 0 k 0 ws).words ≡ ws'

@@ -1,12 +1,11 @@
 -- Seeking a descriptor, as code does it: from place to place of a part.
-use Rattle.std.specs.Prelude.{◌≡◌, Bool, true, false, cond, ◌&&◌, List, [], ℕ, zero, suc, ◌+◌, ◌-◌, ◌≤◌, ◌<◌, eqb, length, drop, get_or}
+use Rattle.std.specs.Prelude.{◌≡◌, Bool, true, false, cond, ◌&&◌, List, [], ℕ, zero, suc, ◌+◌, ◌-◌, ◌≤◌, ◌<◌, eqb, length, drop, get_or, Result, Ok, Err, Option, Some, None}
 use Rattle.stream.specs.declared.Phase.{Phase}
 use Rattle.stream.specs.declared.Stop.TheVariants.{AllTaken, Descriptor}
 use Rattle.stream.specs.declared.Reading.{Reading}
 use Rattle.stream.specs.Table.{descriptor, seeking, width, says, follows}
-use Rattle.stream.specs.State.{twenty}
 use Rattle.stream.specs.inner.Account.{Moves}
-use Rattle.stream.specs.inner.Hold.{holding}
+use Rattle.stream.specs.inner.Hold.{holding, stopping}
 
 -- in phase p the seven bytes d are sought, and q follows
 pub record Seeks (p : Phase) (d : List ℕ) (q : Phase) : Type 0 where
@@ -30,25 +29,32 @@ unfoldable pub near_by : List ℕ → List ℕ → ℕ → ℕ → Bool
 near_by d part i zero = false
 near_by d part i (suc n) = cond (begins d part (i + n)) true (near_by d part i n)
 
--- d stands at i, or there are too few bytes
-unfoldable pub SeekEnd : Bool → List ℕ → List ℕ → ℕ → Type 0
-SeekEnd true d part i = (i + 7 ≤ length part) × ((j : ℕ) → j < 7 → get_or part (i + j) 0 ≡ get_or d j 0)
-SeekEnd false d part i = length part < i + 7
+-- d stands at i
+pub record Stands (d part : List ℕ) (i : ℕ) : Type 0 where
+  pub fits : i + 7 ≤ length part
+  pub same : (j : ℕ) → j < 7 → get_or part (i + j) 0 ≡ get_or d j 0
 
-pub record SoughtTo (d part : List ℕ) (b i : ℕ) (t : Bool) : Type 0 where
-  pub sought : Sought d part b i
-  pub end : SeekEnd t d part i
+-- the place before `last` at which it first stands, if there is one
+abbrev pub Searched : List ℕ → List ℕ → ℕ → ℕ → Option ℕ → Type 0
+Searched d part b last (Some i) = Sought d part b i × Stands d part i
+Searched d part b last None = Sought d part b last
 
--- d stands at i, or i is the last place
-unfoldable pub SearchEnd : Bool → List ℕ → List ℕ → ℕ → ℕ → Type 0
-SearchEnd true d part last i = SeekEnd true d part i
-SearchEnd false d part last i = i ≡ last
+-- a place, found or not
+abbrev pub place_of : Result ℕ ℕ → ℕ
+place_of (Ok i) = i
+place_of (Err i) = i
 
-pub record Searched (d part : List ℕ) (b last i : ℕ) (t : Bool) : Type 0 where
-  pub sought : Sought d part b i
-  pub end : SearchEnd t d part last i
+-- d stands there, or there are too few bytes
+unfoldable pub SeekEnd : List ℕ → List ℕ → Result ℕ ℕ → Type 0
+SeekEnd d part (Ok i) = Stands d part i
+SeekEnd d part (Err i) = length part < i + 7
 
--- the answer where seeking stands at i, counted from the h bytes held
-unfoldable pub seek_answer : Phase → Phase → List ℕ → ℕ → Bool → ℕ → ℕ → Reading
-seek_answer p q part i true h k = record { reader = holding q [] k; taken = i + 7 - h; words = 0; stop = Descriptor; reply = twenty [] }
-seek_answer p q part i false h k = record { reader = holding p (drop i part) k; taken = length part - h; words = 0; stop = AllTaken; reply = twenty [] }
+-- the place at which it first stands, or else the first at which there are too few bytes
+pub record SoughtTo (d part : List ℕ) (b : ℕ) (r : Result ℕ ℕ) : Type 0 where
+  pub sought : Sought d part b (place_of r)
+  pub end : SeekEnd d part r
+
+-- the answer where seeking stands, counted from the h bytes held
+unfoldable pub seek_answer : Phase → Phase → List ℕ → Result ℕ ℕ → ℕ → ℕ → Reading
+seek_answer p q part (Ok i) h k = stopping (holding q [] k) (i + 7 - h) Descriptor
+seek_answer p q part (Err i) h k = stopping (holding p (drop i part) k) (length part - h) AllTaken

@@ -1,28 +1,21 @@
 -- `Reader::read` meets its promise.
-use mathlib.Core.List.{[]}
-use native.Mathlib.Omega.{arith}
+use mathlib.Core.Logic.{inl, inr}
 use Rattle.wire.specs.Descriptor.{info_descriptor, health_descriptor, scan_descriptor}
 use Rattle.stream.proofs.inner.Seek.{seeks_info, seeks_health, seeks_scan}
-use Rattle.stream.proofs.inner.Reply.{idle_reads, info_awaits, health_awaits}
+use Rattle.stream.proofs.inner.Reply.{info_awaits, health_awaits, awaits_wide}
 use Rattle.stream.proofs.Reader.read.Goals as goal
 
-pub find-requires : goal.find-requires
+pub seeking-requires : goal.seeking-requires
 unfolding info_descriptor
-find-requires c = seeks_info c.in-SeekInfo.is
+seeking-requires c = seeks_info c.in-SeekInfo.is
 
-pub find-requires-in-SeekHealth : goal.find-requires-in-SeekHealth
+pub seeking-requires-in-SeekHealth : goal.seeking-requires-in-SeekHealth
 unfolding health_descriptor
-find-requires-in-SeekHealth c = seeks_health c.in-SeekHealth.is
+seeking-requires-in-SeekHealth c = seeks_health c.in-SeekHealth.is
 
-pub find-requires-in-SeekScan : goal.find-requires-in-SeekScan
+pub seeking-requires-in-SeekScan : goal.seeking-requires-in-SeekScan
 unfolding scan_descriptor
-find-requires-in-SeekScan c = seeks_scan c.in-SeekScan.is
+seeking-requires-in-SeekScan c = seeks_scan c.in-SeekScan.is
 
 pub gather-requires : goal.gather-requires
-gather-requires c = (info_awaits c.in-InfoReply.is, omega arith)
-
-pub gather-requires-in-HealthReply : goal.gather-requires-in-HealthReply
-gather-requires-in-HealthReply c = (health_awaits c.in-HealthReply.is, omega arith)
-
-pub returns-in-Idle : goal.returns-in-Idle
-returns-in-Idle c = idle_reads _ c.in-Idle.is (c.idle.ensures [] _)
+gather-requires c = elim c.in-InfoReply.is [ inl e ↦ awaits_wide (info_awaits e) | inr e ↦ awaits_wide (health_awaits e) ]

@@ -1,7 +1,7 @@
 -- `hold::join` meets its promise.
 use native.Mathlib.Omega.{arith}
-use Rattle.stream.proofs.inner.Hold.{joined_by}
+use Rattle.stream.proofs.inner.Hold.{joined}
 use Rattle.stream.proofs.hold.join.Goals as goal
 
 pub returns : goal.returns
-returns c = joined_by (rw c.requires.joint_value.0 at c.copy.ensures) c.copy-2.ensures (omega arith) (omega arith) (omega arith)
+returns c = rw c.requires.zeros (joined c.args.bytes.now c.args.more.now c.requires.fits _ _ _ (omega arith) c.copy_from_slice.ensures.after c.copy_from_slice-2.ensures.after)

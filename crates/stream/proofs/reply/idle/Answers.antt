@@ -1,6 +1,7 @@
 -- `reply::idle` meets its promise.
-use Rattle.stream.proofs.inner.Reply.{idle_comes}
+use mathlib.Core.Path.{◌∙◌}
+use Rattle.stream.proofs.inner.Reply.{idle_reads}
 use Rattle.stream.proofs.reply.idle.Goals as goal
 
 pub returns : goal.returns
-returns c = λ held ws. idle_comes c.args.input.now _ _ _ c.empty.ensures c.more_skipped.ensures held ws
+returns c = λ ws. idle_reads c.args.reader.now c.requires (c.stopping.ensures ∙ rw (c.empty.ensures, c.more_skipped-skipped.ensures))

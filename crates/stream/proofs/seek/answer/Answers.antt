@@ -1,9 +1,13 @@
 -- `seek::answer` meets its promise.
-use Rattle.stream.proofs.inner.Seek.{answer_found, answer_sought}
+use mathlib.Core.Path.{◌∙◌}
+use Rattle.stream.specs.inner.Seek.{seek_answer}
+use Rattle.stream.proofs.inner.Joint.{to_end}
 use Rattle.stream.proofs.seek.answer.Goals as goal
 
-pub returns-then-place : goal.returns-then-place
-returns-then-place c = answer_found _ _ c.args.part.now _ _ _ _ _ c.empty.ensures c.if-place.true
+pub returns-in-Ok : goal.returns-in-Ok
+unfolding seek_answer
+returns-in-Ok c = c.stopping.ensures ∙ rw (c.in-Ok.is, c.empty-found.ensures, c.more_skipped.ensures)
 
-pub returns : goal.returns
-returns c = answer_sought _ _ c.args.part.now _ _ _ _ _ c.hold.ensures c.if-place.false
+pub returns-in-Err : goal.returns-in-Err
+unfolding seek_answer
+returns-in-Err c = c.stopping-in-Err.ensures ∙ rw (c.in-Err.is, c.holding-rest.ensures, to_end, c.more_skipped-skipped.ensures)

@@ -1,11 +1,7 @@
 -- `seek::is_near` meets its promise.
 use mathlib.Core.Path.{◌≡◌}
-use Prim.Native.Nat.{◌-◌, ◌≤◌}
 use Rattle.stream.specs.inner.Seek.{near_by}
 use Rattle.stream.proofs.seek.is_near.Given as goal
 
 abbrev pub invariant-loop-k : goal.invariant-loop-k
-invariant-loop-k l = (l.k ≤ 32) × (l.near ≡ near_by l.head l.part l.at l.k)
-
-abbrev pub decreases-loop-k : goal.decreases-loop-k
-decreases-loop-k l = 32 - l.k
+invariant-loop-k l = l.near ≡ near_by l.head l.part l.at l.k

@@ -1,25 +1,39 @@
 -- `seek::seeking` meets its promise.
+use mathlib.Core.Path.{◌≡◌, refl, sym, ◌∙◌}
+use mathlib.Core.Bool.{false}
+use Prim.Native.Nat.{◌≤◌}
+use native.Mathlib.Nat.{zero-add}
 use native.Mathlib.Omega.{arith}
-use Rattle.stream.proofs.inner.Seek.{seek_place, seek_from, seek_full, seek_end, seek_then}
+use lib.ListN.{length}
+use Rattle.std.specs.Result.{is_ok}
+use Rattle.stream.proofs.inner.Joint.{not_both, joined_reads}
+use Rattle.stream.proofs.inner.Seek.{seek_place, seek_from, seek_part, seek_then}
 use Rattle.stream.proofs.seek.seeking.Goals as goal
+use Rattle.stream.proofs.seek.seeking.Goals.{in_default-via-in-Err+else-input-gt-ALL_BUT_ONE, in_default-via-in_default}
 
-pub answer-requires : goal.answer-requires
-answer-requires c = seek_place c.seek-first.ensures (omega arith) (omega arith)
+pub overflow_sub-at : goal.overflow_sub-at
+overflow_sub-at c = let j = rw c.requires.wide at c.new-joint.ensures.joined.joins in seek_from j (rw c.in-Err.is at c.seek-first.ensures) c.if-input-gt-ALL_BUT_ONE.true
 
-pub returns-then-first : goal.returns-then-first
-returns-then-first c = λ ws. seek_full c.requires.1 c.requires.0 c.seek-first.ensures ws c.if-first.true _ c.more_skipped-k.ensures c.answer.ensures
+pub answer-requires-clause-placed : goal.answer-requires-clause-placed
+answer-requires-clause-placed c = seek_place _ c.seek-second.ensures (omega arith) (omega arith)
 
-pub answer-requires-then-input-le6 : goal.answer-requires-then-input-le6
-answer-requires-then-input-le6 c = seek_place c.seek-first.ensures (omega arith) (omega arith)
+pub answer-requires-in_default-clause-placed : goal.answer-requires-in_default-clause-placed
+answer-requires-in_default-clause-placed c =
+    let e : c.in_default.first ≡ c.seek-first.result = elim c.in_default.branch [ in_default-via-in-Err+else-input-gt-ALL_BUT_ONE w ↦ w.first-is ∙ sym w.in-Err.is | in_default-via-in_default w ↦ w.first-is ] in
+    let j = c.new-joint.ensures.joined in
+    rw e (seek_place _ c.seek-first.ensures (omega (arith, j.joins.few, c.requires.wide)) (omega (arith, j.joins.long)))
 
-pub returns-then-input-le6 : goal.returns-then-input-le6
-returns-then-input-le6 c = λ ws. seek_end c.requires.1 c.requires.0 c.seek-first.ensures ws c.if-first.false c.if-input-le6.true _ c.more_skipped-k.ensures c.answer-then-input-le6.ensures
+pub returns-in-Err : goal.returns-in-Err
+returns-in-Err c =
+    let d = c.new-joint.ensures.joined in
+    λ ws. joined_reads refl d (seek_then c.requires (rw c.requires.wide at d.joins) ws _ _ (rw c.in-Err.is at c.seek-first.ensures) c.if-input-gt-ALL_BUT_ONE.true c.seek-second.ensures c.answer.ensures)
 
-pub overflow_sub-from : goal.overflow_sub-from
-overflow_sub-from c = (seek_from c.requires.0 c.seek-first.ensures c.if-first.false c.if-input-le6.false).0
-
-pub answer-requires-2 : goal.answer-requires-2
-answer-requires-2 c = seek_place c.seek-second.ensures (omega arith) (omega arith)
-
-pub returns : goal.returns
-returns c = λ ws. seek_then c.requires.1 c.requires.0 c.seek-first.ensures ws c.if-first.false c.if-input-le6.false c.seek-second.ensures _ c.more_skipped-k.ensures _ c.more_skipped-n.ensures c.answer-2.ensures
+pub returns-in_default : goal.returns-in_default
+returns-in_default c =
+    let e : c.in_default.first ≡ c.seek-first.result = elim c.in_default.branch [ in_default-via-in-Err+else-input-gt-ALL_BUT_ONE w ↦ w.first-is ∙ sym w.in-Err.is | in_default-via-in_default w ↦ w.first-is ] in
+    let few : is_ok c.in_default.first ≡ false → length c.args.input.now ≤ 6 = λ f. elim c.in_default.branch [
+      | in_default-via-in-Err+else-input-gt-ALL_BUT_ONE w ↦ w.if-input-gt-ALL_BUT_ONE.false
+      | in_default-via-in_default w ↦ not_both (is_ok c.in_default.first) (rw (w.first-is, w.in_default.is)) f
+    ] in
+    let d = c.new-joint.ensures.joined in
+    λ ws. joined_reads refl d (seek_part c.requires (rw c.requires.wide at d.joins) ws _ (rw e c.seek-first.ensures) few (rw zero-add at c.answer-in_default.ensures))
