@@ -3,6 +3,5 @@
 
 mod cells;
 pub mod gather;
-mod limits;
 mod row;
 mod take;
