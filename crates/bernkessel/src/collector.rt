@@ -1,9 +1,9 @@
 // The collector of requests.
 ghost use Rattle.std.specs.Prelude.{◌≡◌};
-ghost use Rattle.bernkessel.specs.Collector.{stage_in, stage_out, collector_in, collector_out, collected_out};
+ghost use Rattle.bernkessel.specs.Collector.{stage_in, stage_out, collector_in, collector_out, packet_out, collected_out};
 ghost use Rattle.bernkessel.specs.Promises.{CollectorFresh, CollectorTakes};
 
-use device::collector::{Collected, Collector, Stage};
+use device::collector::{Collected, Collector, Packet, Stage};
 use paper::refusal::Refusal;
 
 // The bytes of the stages; any other byte is STAGE_EMPTY.
@@ -144,37 +144,35 @@ impl From<Collector> for BkCollector {
     }
 }
 
-#[tactic(auto, unfolding(crate::specs::Collector::collected_out, crate::specs::Collector::packet_out))]
-fn collected_out(was: BkCollector, collected: Result<Collected, Refusal>) -> BkCollected
-    ensures { result ≡ collected_out was collected }
+#[tactic(auto, unfolding(crate::specs::Collector::packet_out))]
+fn packet_out(packet: Option<Packet>, collector: BkCollector) -> BkCollected
+    ensures { result ≡ packet_out packet collector }
 {
-    let none = BkCollected::default();
-    match collected {
-        Ok(
-            Collected {
-                collector,
-                packet: Some(packet),
-            },
-        ) => BkCollected {
-            collector: collector.into(),
+    match packet {
+        Some(packet) => BkCollected {
+            collector,
             complete: 1,
             code: packet.request.0,
             size: packet.size,
             refusal: 0,
         },
-        Ok(
-            Collected {
-                collector,
-                packet: None,
-            },
-        ) => BkCollected {
-            collector: collector.into(),
-            ..none
+        None => BkCollected {
+            collector,
+            ..BkCollected::default()
         },
+    }
+}
+
+#[tactic(auto, unfolding(crate::specs::Collector::collected_out))]
+fn collected_out(was: BkCollector, collected: Result<Collected, Refusal>) -> BkCollected
+    ensures { result ≡ collected_out was collected }
+{
+    match collected {
+        Ok(collected) => packet_out(collected.packet, collected.collector.into()),
         Err(q) => BkCollected {
             collector: was,
             refusal: q.number(),
-            ..none
+            ..BkCollected::default()
         },
     }
 }
