@@ -16,8 +16,8 @@ module _ {rec was is : List ℕ} where
   shown (Err q) g room = absurd (line_never_short _ (omega (arith, g.short)) g.line refl)
 
   module _ {r : Result ℕ Refusal} {n : ℕ} (g : LineGiven rec was r is) (room : length was ≡ 27) (e : n ≡ result_unwrap_or r 0) where
-    pub line_within : n ≤ length is
-    line_within = let s = shown r g (omega arith) in omega (arith, s.0, e)
+    pub line_within : length is ≡ length was → n ≤ 27
+    line_within same = let s = shown r g (omega arith) in omega (arith, s.0, e)
 
     pub line_told : take n is ≡ line_by (turn_of rec)
     line_told = rw e (shown r g (omega arith)).1

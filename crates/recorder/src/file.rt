@@ -16,8 +16,8 @@ fn put(file: &File, image: &mut [u8], rec: &[u8], k: usize) -> Result<(), End>
     Ok(())
 }
 
-// Adds a record by its 755 stores in order. Its bytes are on the disk before the head is stored, and the head before anything else. The turn is kept by
-// the store of the head: what comes after it, whether all of it is known to be on the disk, is what is answered of a kept turn.
+// Adds a record by its 755 stores in order. Its bytes are on the disk before the head is stored, and the head before anything else. A turn is kept once
+// its head is stored; what is answered of it then is what came of the sync behind that.
 #[tactic(auto, using(crate::proofs::Made::stores_on, crate::proofs::Made::stores_last), unfolding(ring::specs::Ring::stores))]
 pub fn keep(file: &File, image: &mut [u8], rec: &[u8]) -> Result<std::io::Result<()>, End>
     ensures { OnOk result (image.new ≡ stores slots image.old rec.now 755) }

@@ -38,7 +38,7 @@ fn hand_on<T, F: FnMut(&[T]) -> Result<usize, End>>(items: &[T], mut take: F) ->
 }
 
 // A scan that is recorded: the ring's file and its bytes, the host, the cells of the open turn and those of the one that closed last, and how many turns
-// are kept.
+// are kept. The bytes have a lifetime of their own, since they are lent on in one call with the file.
 #[derive(Drop)]
 pub struct Recorder<'a, 'm> {
     task: Task<'a>,

@@ -9,6 +9,7 @@ use program::Program;
 use program::output::is_left;
 
 // The line of a record, as the listing has it, at the front of a buffer that has room for it.
+#[tactic(auto, using(crate::proofs::Lines::line_within))]
 fn line<'a>(rec: &[u8], text: &'a mut [u8; LINE_ROOM]) -> &'a [u8]
     ensures { result.now ≡ line_by (turn_of rec.now) }
 {
