@@ -122,6 +122,7 @@ impl Tally {
     }
 }
 
+// A part of a line. (`println!` would make one write of a line, which is made of several here.)
 fn print(label: &[u8], n: u64) {
     io::write_all(STDOUT_FILENO, label);
     io::print_decimal(STDOUT_FILENO, n);
