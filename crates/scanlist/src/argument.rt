@@ -1,79 +1,81 @@
 // What the program is started with.
-ghost use Rattle.std.specs.Prelude.{◌≤◌};
-ghost use Rattle.io.specs.Counts.{IsPrefixLen};
+ghost use Rattle.std.specs.Prelude.{◌≤◌, IfSome};
 
-use program::word::arg_count;
+use program::Program;
 use std::rt::Env;
 use text::digit_value;
 
-#[derive(Drop)]
-pub enum Code {
-    Byte(u8),
-    Nothing,
+// What is taken where a word is left out.
+const CUT: usize = 4096;
+
+const ROOM: usize = 3072;
+
+// The most that is taken, and so the buffers.
+pub const MOST_CUT: usize = 65536;
+
+pub const MOST_ROOM: usize = 24576;
+
+// What is asked: the code of a request, how many bytes a piece has, and how many words there is room for.
+#[derive(Clone, Copy)]
+pub struct Asked {
+    pub code: u8,
+    pub cut: usize,
+    pub room: usize,
+    ghost cut_bound: { (1 ≤ cut) × (cut ≤ 65536) },
+    ghost room_bound: { (3 ≤ room) × (room ≤ 24576) },
 }
 
-// The bytes of argument i at the front of a text, and how many: none where it is left out or there is no room for it.
-fn argument(rt: &HostRuntime, i: usize, text: &mut [u8]) -> usize
-    ensures { IsPrefixLen result text.new }
-{
-    match rt.arg(i, text) {
-        Ok(n) => n,
-        Err(_) => 0,
+impl Asked {
+    // None where the words are not understood.
+    pub fn by(program: Program<'_>) -> Option<Asked> {
+        if program.arg_count() > 4 {
+            return None;
+        }
+        Some(Asked {
+            code: code(program, 1)?,
+            cut: number(program, 2, 1, MOST_CUT, CUT)?,
+            room: number(program, 3, 3, MOST_ROOM, ROOM)?,
+        })
     }
 }
 
-// Argument i as two hexadecimal digits.
-pub fn code_of(rt: &HostRuntime, i: usize) -> Code {
+// The bytes of word i, in a text: none where it is left out or there is no room for it.
+fn word<'a>(program: Program<'_>, i: usize, text: &'a mut [u8]) -> &'a [u8] {
+    let n = program.rt.arg(i, text).unwrap_or(0);
+    &text[..n]
+}
+
+// Word i as two hexadecimal digits.
+fn code(program: Program<'_>, i: usize) -> Option<u8> {
     let mut text = [0u8; 4];
-    let n = argument(rt, i, &mut text);
-    if n != 2 {
-        return Code::Nothing;
-    }
-    let high = digit_value(text[0]);
-    let low = digit_value(text[1]);
-    if high > 15 {
-        return Code::Nothing;
-    }
-    if low > 15 {
-        return Code::Nothing;
-    }
-    Code::Byte(high * 16 + low)
+    let &[high, low] = word(program, i, &mut text) else {
+        return None;
+    };
+    Some(digit_value(high)? * 16 + digit_value(low)?)
 }
 
-// Argument i as a decimal number from `least` to `most`: 0 where it is none, and `otherwise` where it is left out.
-pub fn number(rt: &HostRuntime, i: usize, least: usize, most: usize, otherwise: usize) -> usize
-    requires { otherwise ≤ most }
-    ensures { result ≤ most }
+// Word i as a decimal number from `least` to `most`, and `otherwise` where it is left out.
+fn number(
+    program: Program<'_>,
+    i: usize,
+    least: usize,
+    most: usize,
+    otherwise: usize,
+) -> Option<usize>
+    requires { (least ≤ otherwise) × (otherwise ≤ most) }
+    ensures { IfSome result (λ n. (least ≤ n) × (n ≤ most)) }
 {
-    if arg_count(rt) <= i {
-        return otherwise;
+    if program.arg_count() <= i {
+        return Some(otherwise);
     }
     let mut text = [0u8; 8];
-    let n = argument(rt, i, &mut text);
-    let value = decimal(&text[..n]);
-    if value < least {
-        return 0;
-    }
-    if value > most {
-        return 0;
-    }
-    value
+    decimal(word(program, i, &mut text)).filter(|n| least <= *n && *n <= most)
 }
 
-// Up to seven decimal digits as a number; anything else is 0.
-fn decimal(text: &[u8]) -> usize {
-    let mut value: usize = 0;
-    let mut i: usize = 0;
-    while i < text.len() {
-        let d = digit_value(text[i]);
-        if d > 9 {
-            return 0;
-        }
-        if value > 999999 {
-            return 0;
-        }
-        value = value * 10 + d as usize;
-        i += 1;
+// A number of decimal digits alone.
+fn decimal(text: &[u8]) -> Option<usize> {
+    if !text.iter().all(|b| b.is_ascii_digit()) {
+        return None;
     }
-    value
+    std::str::from_utf8(text).ok()?.parse().ok()
 }

@@ -1,0 +1,2 @@
+-- What one call over a piece does for the listing of it.
+pub mod Calls
