@@ -163,6 +163,7 @@ fn packet_out(packet: Option<Packet>, collector: BkCollector) -> BkCollected
     }
 }
 
+// By cases: `split` over all that stands beside a refusal would be no plainer.
 #[tactic(auto, unfolding(crate::specs::Collector::collected_out))]
 fn collected_out(was: BkCollector, collected: Result<Collected, Refusal>) -> BkCollected
     ensures { result ≡ collected_out was collected }

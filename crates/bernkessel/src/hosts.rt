@@ -174,6 +174,7 @@ impl From<Heard> for BkHeard {
     }
 }
 
+// By cases: `split` over all that stands beside a refusal would be no plainer.
 #[tactic(auto, unfolding(crate::specs::Host::turned_out))]
 fn turned_out(was: BkHost, turned: Result<Turned, Refusal>) -> BkTurned
     ensures { result ≡ turned_out was turned }

@@ -93,6 +93,7 @@ impl From<Gatherer> for BkGatherer {
     }
 }
 
+// By cases: `split` over all that stands beside a refusal would be no plainer.
 #[tactic(auto, unfolding(crate::specs::Turn::gathered_out))]
 fn gathered_out(was: BkGatherer, gathered: Result<Gathered, Refusal>) -> BkGathered
     ensures { result ≡ gathered_out was gathered }
