@@ -3,9 +3,6 @@
 #![tactic(auto)]
 
 ghost use Rattle.std.specs.Prelude.{◌≡◌, length};
-ghost use Rattle.io.specs.Counts.{IsPrefixLen};
-
-use paper::refusal::Written;
 
 // The descriptor of standard output.
 const STDOUT_FILENO: i32 = 1;
@@ -18,24 +15,11 @@ const LONGER: usize = MEMORY + 1;
 // More turns than slots.
 const TURNS: u8 = 70;
 
-// How many bytes were written into a text.
-fn length_of(written: Written, text: &[u8]) -> usize
-    ensures { IsPrefixLen result text.now }
-{
-    if let Written::Bytes(n) = written {
-        if n <= text.len() {
-            return n;
-        }
-    }
-    0
-}
-
-// The listing of an image, and an empty line behind it.
+// The listing of an image, and an empty line behind it. Its buffer is never too short.
 fn print(image: &[u8]) {
     let mut text = [0u8; listing::ROOM];
-    let written = listing::list(image, &mut text);
-    let n = length_of(written, &text);
-    io::write_all(STDOUT_FILENO, &text[..n]);
+    let n = listing::list(image, &mut text).unwrap_or(0);
+    io::write_all(STDOUT_FILENO, &text[..n.min(listing::ROOM)]);
     io::write_all(STDOUT_FILENO, b"\n");
 }
 
@@ -61,20 +45,15 @@ fn turn(i: u8) -> [u8; 754]
 
 // Adds turns numbered from 0, so many that the first of them are driven out.
 fn go_round(mem: &mut [u8]) {
-    let mut i: u8 = 0;
-    while i < TURNS {
-        let rec = turn(i);
-        ring::add(mem, &rec);
-        i += 1;
+    for i in 0..TURNS {
+        let _ = ring::add(mem, &turn(i));
     }
 }
 
 // All stores of a record but the last.
 fn store_first(mem: &mut [u8], rec: &[u8]) {
-    let mut k: usize = 0;
-    while k < 754 {
-        ring::store(mem, rec, k);
-        k += 1;
+    for k in 0..754 {
+        let _ = ring::store(mem, rec, k);
     }
 }
 
@@ -83,13 +62,13 @@ fn print_broken(mem: &mut [u8]) {
     let rec = turn(TURNS);
     store_first(mem, &rec);
     print(mem);
-    ring::store(mem, &rec, 754);
+    let _ = ring::store(mem, &rec, 754);
     print(mem);
 }
 
 // An erased ring that goes round, and then takes one turn more.
 fn print_round(mem: &mut [u8]) {
-    ring::erase(mem);
+    let _ = ring::erase(mem);
     go_round(mem);
     print(mem);
     print_broken(mem);
