@@ -1,10 +1,11 @@
 // Erases the ring in a file: ringerase FILE. One store, of 0 at the head; the records stay where they are, and no turn is held any more.
 #![tactic(auto)]
 
-use paper::refusal::Answer;
-use program::input::{keep_standard, read_whole};
-use program::output::{STDERR, failed, print, print_number};
-use program::word::{Word, arg_count, print_version, said, too_long};
+use program::Program;
+use program::input::read_whole;
+use program::output::{STDERR, Said};
+use program::word::{Word, too_long};
+use ringfile::RingFile;
 use std::env::FillError;
 use std::fs::File;
 use std::rt::Env;
@@ -17,22 +18,9 @@ fn usage() {
     io::write_all(STDERR, USAGE);
 }
 
-// Erases the ring that the file holds, in the image and then in the file.
-fn erase_in(rt: &HostRuntime, file: &File, path: &[u8], image: &mut [u8]) {
-    let was = head(image);
-    let a = ring::erase(image);
-    if let Answer::Refused(r) = a {
-        print_number(rt, b"ringerase", b"refused", r.number() as u64);
-        return;
-    }
-    if !ringfile::make_sure(rt, b"ringerase", path, file, was) {
-        return;
-    }
-    if let Err(e) = store_head(file, head(image)) {
-        failed(b"ringerase", path, e);
-        return;
-    }
-    print(rt, b"ringerase", b"erased\n");
+// The head of a ring.
+fn head(image: &[u8]) -> u8 {
+    image.first().copied().unwrap_or(0)
 }
 
 // Stores the head, and has it on the disk.
@@ -41,61 +29,67 @@ fn store_head(file: &File, b: u8) -> std::io::Result<()> {
     ringfile::sync(file)
 }
 
-// The head of a ring.
-fn head(image: &[u8]) -> u8 {
-    if image.len() == 0 {
-        return 0;
+// Erases the ring that the file holds, in the image and then in the file.
+fn erase_in(ring: RingFile<'_>, file: &File, image: &mut [u8]) -> Result<(), Said> {
+    let was = head(image);
+    if let Err(r) = ring::erase(image) {
+        ring.program.print_number(b"refused", u64::from(r.number()));
+        return Err(Said);
     }
-    image[0]
+    ring.make_sure(file, was)?;
+    let stored = store_head(file, head(image));
+    ring.program.or_say(ring.path, stored)?;
+    ring.program.print(b"erased\n");
+    Ok(())
 }
 
-fn erase_file(rt: &HostRuntime, path: &[u8]) {
-    let Some(file) = ringfile::open(rt, b"ringerase", path) else {
-        return;
-    };
+fn erase_file(ring: RingFile<'_>) -> Result<(), Said> {
+    let file = ring.open()?;
     let mut image = [0u8; ringfile::LONGER];
     let mut from = &file;
-    let got = read_whole(&mut from, &mut image);
-    let n = got.bytes;
-    match got.why {
-        None => erase_in(rt, &file, path, &mut image[..n]),
-        Some(e) => failed(b"ringerase", path, e),
-    }
+    let read = read_whole(&mut from, &mut image).map_err(|broken| broken.why);
+    let n = ring.program.or_say(ring.path, read)?;
+    erase_in(ring, &file, &mut image[..n])
 }
 
 // No message goes before the look at where messages go.
-fn erase_asked(rt: &HostRuntime) {
-    let mut path = io::buffer();
-    let n = match rt.arg(1, &mut path) {
+fn erase_asked(program: Program<'_>) {
+    let mut room = io::buffer();
+    let n = match program.rt.arg(1, &mut room) {
         Ok(n) => n,
         Err(FillError::NotPresent) => 0,
-        Err(FillError::TooLong) => {
-            failed(b"ringerase", b"the file's name", too_long());
-            return;
-        }
+        Err(FillError::TooLong) => return program.failed(b"the file's name", too_long()),
     };
-    if !ringfile::is_no_output(rt, b"ringerase", &path[..n]) {
+    let ring = RingFile {
+        program,
+        path: &room[..n],
+    };
+    if !ring.is_no_output() {
         return;
     }
-    if arg_count(rt) != 2 {
-        usage();
-        return;
+    if program.arg_count() != 2 {
+        return usage();
     }
-    erase_file(rt, &path[..n]);
+    // what failed was said
+    let _ = erase_file(ring);
 }
 
 fn main(rt: HostRuntime) {
-    if !keep_standard(&rt, b"ringerase") {
+    let program = Program {
+        rt: &rt,
+        name: b"ringerase",
+    };
+    if program.keep_standard().is_err() {
         return;
     }
-    match said(&rt, 1) {
+    match program.word(1) {
         Word::Help => {
-            print(&rt, b"ringerase", USAGE);
+            program.print(USAGE);
         }
         Word::Version => {
-            print_version(&rt, b"ringerase");
+            program.print_version();
         }
-        Word::Plain => erase_asked(&rt),
+        Word::Plain => erase_asked(program),
         _ => usage(),
     }
 }
