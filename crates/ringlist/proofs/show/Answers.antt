@@ -3,14 +3,13 @@ use Rattle.std.proofs.Common.{arith}
 use Rattle.text.proofs.Shown.{line_shown, line_never_short}
 use Rattle.ringlist.proofs.show.Goals as goal
 
-pub returns-in-Bytes-clause-counts : goal.returns-in-Bytes-clause-counts
-returns-in-Bytes-clause-counts c =
-    (line_shown _ (omega (arith, c.list.ensures.short, c.requires)) c.list.ensures.text _ c.in-Bytes.is).0
+pub shared_ref_as_front-result : goal.shared_ref_as_front-result
+shared_ref_as_front-result c =
+    let s = line_shown _ (omega (arith, c.list.ensures.short)) c.list.ensures.text c.in-Ok.n c.in-Ok.is in
+    omega (arith, s.0.0)
 
-pub returns-in-Bytes-clause-shows : goal.returns-in-Bytes-clause-shows
-returns-in-Bytes-clause-shows c =
-    (line_shown _ (omega (arith, c.list.ensures.short, c.requires)) c.list.ensures.text _ c.in-Bytes.is).1
+pub returns-in-Ok : goal.returns-in-Ok
+returns-in-Ok c = (line_shown _ (omega (arith, c.list.ensures.short)) c.list.ensures.text c.in-Ok.n c.in-Ok.is).1
 
-pub returns-in-Refused-clause-shows : goal.returns-in-Refused-clause-shows
-returns-in-Refused-clause-shows c =
-    absurd (line_never_short _ (omega (arith, c.list.ensures.short, c.requires)) c.list.ensures.text c.in-Refused.is)
+pub returns-in-Err : goal.returns-in-Err
+returns-in-Err c = absurd (line_never_short _ (omega (arith, c.list.ensures.short)) c.list.ensures.text c.in-Err.is)
