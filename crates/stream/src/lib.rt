@@ -38,7 +38,8 @@ pub enum Stop {
     BadHealth,
 }
 
-// A reader: its phase, the first n bytes of `held`, and how many bytes it skipped.
+// A reader: its phase, the first n bytes of `held`, and how many bytes it skipped. An array and a count, since C hands it over by value and
+// nothing is kept on a heap.
 #[derive(Clone, Copy, Debug, PartialEq, Eq)]
 pub struct Reader {
     pub phase: Phase,

@@ -45,21 +45,25 @@ fn pass_over(head: &[u8; 7], part: &[u8], from: usize) -> usize
     at
 }
 
-// The first place before `last` at which the seven stand. The scope paper names the form: a loop over places, in it one over seven bytes, and
-// a label.
+// The first place before `last` at which the seven stand. The scope paper names the form: a loop over places, in it one over seven bytes, left by
+// a label at the first match.
 fn search(head: &[u8; 7], part: &[u8], from: usize, last: usize) -> Option<usize>
     requires { (from ≤ last) × (last + 6 ≤ length part.now) }
     ensures { Searched head.now part.now from last result }
 {
+    let mut found = None;
     'places: for at in from..last {
         for k in 0..BYTES {
             if part[at + k] != head[k] {
-                continue 'places;
+                break;
+            }
+            if k == ALL_BUT_ONE {
+                found = Some(at);
+                break 'places;
             }
         }
-        return Some(at);
     }
-    None
+    found
 }
 
 // The first place at which the seven stand, or else the first at which there are too few bytes. Blocks are passed over where that can be, and
