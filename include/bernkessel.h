@@ -1,6 +1,6 @@
 /* Bernkessel from C: the recorder's parts, proved in Rattle, as one archive.
  *
- * Build it with `tools/build bernkessel` and link target/staticlib/libbernkessel.a; of the C library it uses memcpy, memmove and memset alone.
+ * Build it with `tools/build bernkessel` and link target/staticlib/libbernkessel.a; of the C library it uses memcpy and memset alone.
  *
  * Every function is total: it reads no byte outside what it is lent, never allocates, and refuses what it cannot take by one of the
  * numbers below, BK_NONE for no refusal. A refused call changes neither memory that is lent nor the state: it gives back the very state

@@ -1,14 +1,16 @@
 -- How a writer's promise is met: `writes_all`, `writes_short`, `writes_refused`; of bytes put at a place: `put_done`, `put_short`; and what a writer
--- that wrote n bytes gave: `written_front`; where the count stands in an answer: `written_count`.
+-- that wrote n bytes gave: `written_front`; how a copy goes on and ends: `copy_step`, `copy_end`; where the count stands in an answer: `written_count`.
 use Prim.Native.Nat.{ℕ, ◌+◌, ◌<◌, ◌≤◌}
 use mathlib.Core.Path.{◌≡◌, refl, sym, ap, ◌∙◌}
 use mathlib.Core.Bool.{Bool, true, false}
-use mathlib.Core.List.{List, ◌++◌}
+use mathlib.Core.List.{List, ◌++◌, append-nil}
 use native.Mathlib.Omega.{arith}
 use lib.Dec.{ltb}
-use lib.ListN.{length, take, drop, length-append, length-drop}
+use lib.ListN.{length, get_or, set, take, drop, length-append, length-drop, drop_of_length-le}
 use lib.Seq.{take_at, sets, sets-eq}
 use borrow.Author.Tests.{lt-ltb, le-ltb, ltb-true, ltb-false}
+use Rattle.std.proofs.Common.{◌≢◌, below_more, get_or-set_other, get_or-set_same}
+use Rattle.std.proofs.lemmas.Grind.{same_number_lists}
 use Rattle.paper.specs.Outcome.{Outcome, gives, refuses, if_given, mapped}
 use Rattle.paper.specs.Refusals.{number_of, outcome}
 use Rattle.std.specs.Prelude.{Result, Ok, Err}
@@ -64,12 +66,28 @@ stores_front xs was h =
     let z : 0 + length xs ≡ length xs = omega arith in
     sets-eq xs was 0 (omega arith) ∙ rw z
 
+-- ---- a copy, number by number
+
+pub copy_step : (from to : List ℕ) (i b : ℕ) → i < length to → ((k : ℕ) → k < i → get_or to k 0 ≡ get_or from k 0) → b ≡ get_or from i 0
+    → (k : ℕ) → k < i + 1 → get_or (set to i b) k 0 ≡ get_or from k 0
+copy_step from to i b l f e =
+    below_more _ _ (λ k h. let other : k ≢ i = omega arith in rw get_or-set_other (f k h)) (rw get_or-set_same e)
+
+pub copy_end : (from to : List ℕ) → length to ≡ length from → ((k : ℕ) → k < length from → get_or to k 0 ≡ get_or from k 0) → to ≡ from
+copy_end from to n f = same_number_lists to from n (λ k h. f k (omega arith))
+
 -- ---- one list behind the other
 
 -- what a writer with room leaves
 pub written_over : (xs was is : List ℕ) (r : Result ℕ Refusal) → length xs ≤ length was → Writes (gives xs) was r is → is ≡ over was xs
 unfolding if_given
 written_over xs was is r h w = rw (fitting_yes xs (length was) h) at w.output
+
+-- in a part of their very length they are all that stands there
+pub written_whole : (xs was is : List ℕ) (r : Result ℕ Refusal) → length was ≡ length xs → Writes (gives xs) was r is → is ≡ xs
+unfolding over
+written_whole xs was is r h w =
+    written_over xs was is r (omega arith) w ∙ ap (λ (ys : List ℕ). xs ++ ys) (drop_of_length-le was {i = length xs} (omega arith)) ∙ append-nil xs
 
 pub length_over : (xs was : List ℕ) → length xs ≤ length was → length (over was xs) ≡ length was
 unfolding over

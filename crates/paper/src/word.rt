@@ -3,6 +3,7 @@ ghost use Rattle.std.specs.Prelude.{[], ◌∷◌};
 ghost use Rattle.paper.specs.Promises.{WordRead, WordBytes, BytesPut};
 
 use crate::refusal::Refusal;
+use crate::write::copy;
 
 pub fn word16(low: u8, high: u8) -> u16
     ensures { WordRead (low ∷ high ∷ []) result }
@@ -39,6 +40,6 @@ pub fn put(out: &mut [u8], place: usize, bytes: &[u8]) -> Result<(), Refusal>
         return Err(Refusal::OutputShort);
     }
     let end = place + bytes.len();
-    out[place..end].copy_from_slice(bytes);
+    copy(&mut out[place..end], bytes);
     Ok(())
 }

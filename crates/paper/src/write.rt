@@ -1,9 +1,19 @@
 // Writing bytes at the front of a lent output: all of them, or none where the output is shorter.
-ghost use Rattle.std.specs.Prelude.{◌++◌};
+ghost use Rattle.std.specs.Prelude.{◌≡◌, ◌++◌, length};
 ghost use Rattle.paper.specs.Outcome.{gives};
 ghost use Rattle.paper.specs.Writing.{Writes};
 
 use crate::refusal::Refusal;
+
+// Bytes into a part of the same length. (`copy_from_slice` is made of the C library's `memmove`, and whoever links the C archive would have to bring it.)
+pub(crate) fn copy(to: &mut [u8], from: &[u8])
+    requires { length to.old ≡ length from.now }
+    ensures { to.new ≡ from.now }
+{
+    for (i, b) in from.iter().enumerate() {
+        to[i] = *b;
+    }
+}
 
 pub fn write(bytes: &[u8], out: &mut [u8]) -> Result<usize, Refusal>
     ensures { Writes (gives bytes.now) out.old result out.new }
@@ -12,7 +22,7 @@ pub fn write(bytes: &[u8], out: &mut [u8]) -> Result<usize, Refusal>
     if out.len() < n {
         return Err(Refusal::OutputShort);
     }
-    out[..n].copy_from_slice(bytes);
+    copy(&mut out[..n], bytes);
     Ok(n)
 }
 
@@ -28,7 +38,7 @@ pub fn write_both(head: &[u8], tail: &[u8], out: &mut [u8]) -> Result<usize, Ref
         return Err(Refusal::OutputShort);
     }
     let end = at + tail.len();
-    out[..at].copy_from_slice(head);
-    out[at..end].copy_from_slice(tail);
+    copy(&mut out[..at], head);
+    copy(&mut out[at..end], tail);
     Ok(end)
 }

@@ -10,6 +10,7 @@ ghost use Rattle.text.specs.Refused.{refused_line};
 ghost use Rattle.text.specs.Appends.{PieceAdded};
 ghost use Rattle.text.specs.Promises.{PiecePut, TextShown};
 
+use paper::write::write;
 pub use part::{digit_value, front, stands};
 
 // A buffer, and where its next piece goes.
@@ -37,7 +38,7 @@ impl<'a> Text<'a> {
             return;
         }
         let end = self.end + xs.len();
-        self.bytes[self.end..end].copy_from_slice(xs);
+        let _ = write(xs, &mut self.bytes[self.end..end]);
         self.end = end;
     }
 

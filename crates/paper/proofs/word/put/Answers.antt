@@ -11,4 +11,4 @@ pub returns-then-out-place-2 : goal.returns-then-out-place-2
 returns-then-out-place-2 c = put_short _ _ _ (omega arith)
 
 pub returns : goal.returns
-returns c = put_done _ _ _ _ (omega arith) (put_part _ _ _ _ _ (omega arith) c.copy_from_slice.ensures.after)
+returns c = put_done _ _ _ _ (omega arith) (put_part _ _ _ _ _ (omega arith) c.copy.ensures)

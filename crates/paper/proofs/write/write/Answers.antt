@@ -11,4 +11,4 @@ returns-then-out-n c = writes_short _ _ c.if-out-n.true
 
 pub returns : goal.returns
 unfolding over
-returns c = writes_all _ _ _ _ c.if-out-n.false refl (ap (λ xs. xs ++ drop (length c.args.bytes.now) c.args.out.now) c.copy_from_slice.ensures.after)
+returns c = writes_all _ _ _ _ c.if-out-n.false refl (ap (λ xs. xs ++ drop (length c.args.bytes.now) c.args.out.now) c.copy.ensures)

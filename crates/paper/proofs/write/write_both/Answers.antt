@@ -19,5 +19,5 @@ pub returns : goal.returns
 unfolding over
 returns c =
     both_written _ _ _ _ (omega arith)
-    (put_part _ _ _ _ _ (omega arith) c.copy_from_slice-2.ensures.after
-    ∙ ap (λ xs. put_at (length c.args.head.now) c.args.tail.now (xs ++ drop (length c.args.head.now) c.args.out.now)) c.copy_from_slice.ensures.after)
+    (put_part _ _ _ _ _ (omega arith) c.copy-2.ensures
+    ∙ ap (λ xs. put_at (length c.args.head.now) c.args.tail.now (xs ++ drop (length c.args.head.now) c.args.out.now)) c.copy.ensures)
