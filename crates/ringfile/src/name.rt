@@ -1,5 +1,5 @@
 // Names of files and folders.
-ghost use Rattle.std.specs.Prelude.{◌≤◌, length, IfOk};
+ghost use Rattle.std.specs.Prelude.{◌≡◌, ◌≤◌, length, take, IfOk, IfSome};
 ghost use Rattle.ringfile.specs.Name.{Ended};
 
 use program::input::{name_text, no_text, open_read};
@@ -89,7 +89,9 @@ pub(crate) fn unlink(rt: &HostRuntime, path: &[u8]) -> std::io::Result<()> {
 }
 
 // The folder that a path names before its file, the last slash with it.
-fn folder(path: &[u8]) -> Option<&[u8]> {
+fn folder(path: &[u8]) -> Option<&[u8]>
+    ensures { IfSome result (λ front. (length front.now ≤ length path.now) × (front.now ≡ take (length front.now) path.now)) }
+{
     let last = path.iter().rposition(|b| *b == b'/')?;
     Some(&path[..=last])
 }

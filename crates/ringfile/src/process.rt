@@ -80,7 +80,9 @@ impl<'a> Descriptor<'a> {
 }
 
 // The bytes of a short file, so far as they can be read.
-pub(crate) fn read_short<'a>(rt: &HostRuntime, path: &[u8], text: &'a mut [u8]) -> &'a [u8] {
+pub(crate) fn read_short<'a>(rt: &HostRuntime, path: &[u8], text: &'a mut [u8]) -> &'a [u8]
+    ensures { length result.now ≤ length text.old }
+{
     let Ok(mut file) = open_read(rt, path) else {
         return &[];
     };
