@@ -1,16 +1,19 @@
--- What stands after a call: a byte's call is a step of feeding (`call_fed`), and where a call is refused, the state and what is lent are as they were
--- (`byte_refused`, `request_refused`, `setting_refused`).
+-- What stands after a call (`byte_after`, `request_after`, `setting_after`): a byte's call is a step of feeding (`call_fed`), and where a call is refused,
+-- the state and what is lent are as they were (`byte_refused`, `request_refused`, `setting_refused`).
 use Prim.Native.Nat.{ℕ, suc}
 use mathlib.Core.Path.{◌≡◌, refl, sym, ap, ◌∙◌}
 use mathlib.Core.List.{List, ◌∷◌}
+use lib.ListN.{length}
 use Rattle.std.specs.Prelude.{Option, Result, Ok, Err}
 use Rattle.paper.specs.Outcome.{Outcome, gives, refuses, if_given, mapped}
 use Rattle.paper.specs.Refusals.{outcome}
+use Rattle.paper.specs.Writing.{fitting}
 use Rattle.paper.specs.declared.refusal.Refusal.{Refusal}
 use Rattle.paper.proofs.Outcome.{mapped_given, refused_other}
+use Rattle.wire.specs.Request.{kind_of}
 use Rattle.wire.specs.declared.request.Request.{Request}
 use Rattle.device.specs.Collector.{Taken, told, collecting, collected, answer_to, collector_after, memory_after, after}
-use Rattle.device.specs.Model.{set_after}
+use Rattle.device.specs.Model.{in_state, state_after, sent, setting, with_health, set_after}
 use Rattle.device.specs.Model as model
 use Rattle.device.specs.Feeding.{onward, feeding}
 use Rattle.device.specs.Promises.{ByteCollected, Asking, HealthSetting}
@@ -47,6 +50,19 @@ pub call_fed : {s : Collector} {b : ℕ} {was is : List ℕ} {r : Result Collect
     → feeding s was t (b ∷ bs) ≡ onward (mapped its_packet (outcome r)) (feeding (after s r) is (λ k. t (suc k)) bs)
 unfolding feeding
 call_fed {r = r} t bs p = rw (byte_answer p, byte_after r p, p.memory)
+
+-- the model behind a request and behind a setting: another one, or the very model
+pub request_after : {m : Model} {q : Request} {was is : List ℕ} (r : Result Asked Refusal) → Asking m q was r is
+    → model.after m r ≡ if_given (fitting (length was) (sent m (kind_of q.0))) (λ _. in_state m (state_after (kind_of q.0) m.state)) m
+unfolding outcome model.after if_given
+request_after (Ok x) p = let g = mapped_given _ _ p.answer in rw g.1.0 (ap (λ (y : Asked). y.model) g.1.1)
+request_after (Err q) p = refused_other _ _ _ _ p.answer
+
+pub setting_after : {m : Model} {status error : ℕ} (r : Result Model Refusal) → HealthSetting m status error r
+    → set_after m r ≡ if_given (setting status) (λ _. with_health m status error) m
+unfolding outcome set_after if_given
+setting_after (Ok x) p = let g = mapped_given _ _ p.answer in rw g.1.0 g.1.1
+setting_after (Err q) p = refused_other _ _ _ _ p.answer
 
 pub request_refused : {m : Model} {q : Request} {was is : List ℕ} {r : Result Asked Refusal} {a : Refusal} → Asking m q was r is → r ≡ Err a → (model.after m r ≡ m) × (is ≡ was)
 unfolding outcome model.after

@@ -1,21 +1,30 @@
--- How a reply behind its descriptor is sent: `reply_sent`, `reply_refused`; and how long each reply is: `info_whole`, `health_whole`.
-use Prim.Native.Nat.{ℕ}
+-- How a reply behind its descriptor is sent: `reply_sent`, `reply_refused`; how long each reply is: `info_whole`, `health_whole`; that the model's own
+-- health can always be written: `health_sent`; and which setting is refused: `setting_over`, `setting_fit`.
+use Prim.Native.Nat.{ℕ, ◌<◌, ◌≤◌}
 use mathlib.Core.Path.{◌≡◌, refl, sym, ap, ◌∙◌}
-use mathlib.Core.List.{List, ◌++◌, append-nil}
+use mathlib.Core.Bool.{Bool, true, false, cond}
+use mathlib.Core.List.{List, ◌∷◌, ◌++◌, append-nil}
 use native.Mathlib.Omega.{arith}
 use lib.ListN.{length, drop_of_length-le}
+use borrow.Author.Tests.{lt-ltb, le-ltb}
 use Rattle.std.specs.Prelude.{Result, Ok, Err}
 use Rattle.paper.specs.Outcome.{Outcome, gives, refuses, if_given, mapped}
-use Rattle.paper.specs.Refusals.{outcome}
+use Rattle.paper.specs.Refusals.{number_of, outcome}
 use Rattle.paper.specs.Words.{bytes_of}
 use Rattle.paper.specs.Writing.{Writes, fitting, over}
 use Rattle.paper.specs.declared.refusal.Refusal.{Refusal}
-use Rattle.paper.proofs.Outcome.{gives_one, gives_refuses, refuse_not}
+use Rattle.paper.specs.declared.refusal.Refusal.TheVariants.{NotAReply}
+use Rattle.paper.proofs.Outcome.{gives_one, gives_refuses, refuse_not, refuse_yes, refuse_no}
 use Rattle.paper.proofs.Writing.{written_over, written_err}
-use Rattle.wire.specs.Reply.{bytes_of_info, bytes_of_health}
+use Rattle.wire.specs.Reply.{error_status, bytes_of_info, bytes_of_health}
+use Rattle.wire.proofs.Replies.{health_fit}
 use Rattle.wire.specs.declared.reply.Info.{Info}
 use Rattle.wire.specs.declared.reply.Health.{Health}
-use Rattle.device.specs.Model.{behind_descriptor}
+use Rattle.device.specs.Model.{protected, health_now, behind_descriptor, setting, with_health}
+use Rattle.device.specs.Promises.{HealthSetting}
+use Rattle.device.specs.declared.model.State.{State}
+use Rattle.device.specs.declared.model.State.TheVariants.{Idle, Scanning, ForceScanning, ProtectionStop}
+use Rattle.device.specs.declared.model.Model.{Model}
 
 -- a reply is written into as many bytes as it has, and then sent behind its descriptor
 pub reply_sent : (d was is : List ℕ) (o : Outcome (List ℕ)) {blank mid : List ℕ} {n : ℕ} {r : Result ℕ Refusal}
@@ -42,3 +51,30 @@ info_whole i l xs e = ap length (sym (gives_one e)) ∙ omega arith
 pub health_whole : (h : Health) (xs : List ℕ) → bytes_of_health h ≡ gives xs → length xs ≡ 3
 unfolding bytes_of_health bytes_of
 health_whole h xs e = ap length (sym (gives_one (refuse_not _ _ _ e).1))
+
+-- ---- the health that the model sends: no health of its own is refused
+
+status_low : (s : State) (warning : Bool) → protected s error_status (cond warning 1 0) ≤ error_status
+unfolding protected
+status_low ProtectionStop w = omega arith
+status_low Idle true = omega arith
+status_low Idle false = omega arith
+status_low Scanning true = omega arith
+status_low Scanning false = omega arith
+status_low ForceScanning true = omega arith
+status_low ForceScanning false = omega arith
+
+pub health_sent : (m : Model) → bytes_of_health (health_now m) ≡ gives ((health_now m).status ∷ bytes_of 2 m.error)
+unfolding health_now
+health_sent m = health_fit (health_now m) (status_low m.state m.warning)
+
+-- ---- settings
+
+module _ (m : Model) (status error : ℕ) where
+  pub setting_over : 1 < status → HealthSetting m status error (Err NotAReply)
+  unfolding setting outcome mapped
+  setting_over h = record { answer = rw (refuse_yes (number_of NotAReply) (gives (tt {0})) (lt-ltb 1 status h)) }
+
+  pub setting_fit : status ≤ 1 → HealthSetting m status error (Ok (with_health m status error))
+  unfolding setting outcome mapped
+  setting_fit h = record { answer = rw (refuse_no (number_of NotAReply) (gives (tt {0})) (le-ltb 1 status h)) }

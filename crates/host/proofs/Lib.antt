@@ -2,4 +2,5 @@
 pub mod Noted
 pub mod Numbers
 pub mod Answers
+pub mod Unchanged
 pub mod Determined

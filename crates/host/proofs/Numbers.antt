@@ -1,4 +1,4 @@
--- The number of the next turn, by what the ring and its newest turn answer: `number_refused`, `number_first`, `number_unread`, `number_next`.
+-- The number of the next turn, by what the ring and its newest turn answer: `number_refused`, `number_first`, `number_behind_lem`, `number_unread`, `number_next`.
 use Prim.Native.Nat.{ℕ, zero, suc, ◌+◌, ◌-◌, ◌%◌, ◌<◌, ◌≤◌}
 use mathlib.Core.Path.{◌≡◌, refl, sym, ap, ◌∙◌}
 use mathlib.Core.Bool.{Bool, true, false, not, cond}
@@ -6,8 +6,8 @@ use mathlib.Core.List.{List, []}
 use native.Mathlib.Omega.{arith}
 use lib.Dec.{eqb}
 use borrow.Author.Tests.{eqb-true, eqb-false}
-use Rattle.paper.specs.Outcome.{gives, refuses, mapped}
-use Rattle.std.specs.Prelude.{Ok, Err}
+use Rattle.paper.specs.Outcome.{Outcome, gives, refuses, mapped}
+use Rattle.std.specs.Prelude.{Result, Ok, Err}
 use Rattle.paper.specs.Refusals.{number_of, outcome}
 use Rattle.paper.specs.declared.refusal.Refusal.{Refusal}
 use Rattle.paper.specs.declared.refusal.Refusal.TheVariants.{NotARecord}
@@ -22,6 +22,11 @@ use Rattle.ring.specs.Promises.{HeldGiven, TurnGiven}
 use Rattle.ring.proofs.Answered.{given_yes, given_no, ring_ok, ring_means, ring_same, asking_ok, reading_ok, reading_record}
 use Rattle.host.specs.Number.{following, number_behind, next_number}
 use Rattle.host.specs.Promises.{NumberNext}
+
+mapped_twice : {A B C : Type 0} (f : A → B) (g : B → C) (o : Outcome A) → mapped g (mapped f o) ≡ mapped (λ a. g (f a)) o
+unfolding mapped
+mapped_twice f g (gives a) = refl
+mapped_twice f g (refuses n) = refl
 
 -- ---- one number behind another
 
@@ -78,6 +83,17 @@ module _ (S : ℕ) (mem : List ℕ) where
   behind_newest (suc n) part l p q =
       let k : suc n - 1 ≡ n = omega arith in
       behind_is (suc n) p ∙ sym (ap (mapped (λ (t : Turn). following t.number)) (newest_same n part p (rw k at q)))
+
+  -- by what the newest turn's number is answered, and one behind that
+  pub number_behind_lem : (n : ℕ) (part : List ℕ) {newest r : Result ℕ Refusal} → HeldGiven S mem (Ok n) → (n ≡ 0 → ⊥) → TurnGiven S mem (n - 1) part
+      → NumberGiven part newest → outcome r ≡ mapped following (outcome newest) → NumberNext S mem r
+  number_behind_lem n part p l t g e = record {
+    answer = e ∙ ap (mapped following) g.answer ∙ mapped_twice (λ (t : Turn). t.number) following (turn_of part) ∙ sym (behind_newest n part (some n l) p t);
+  }
+    where
+      some : (n : ℕ) → (n ≡ 0 → ⊥) → 1 ≤ n
+      some zero l = absurd (l refl)
+      some (suc n) l = omega arith
 
   pub number_unread : (n : ℕ) (part : List ℕ) {q : Refusal} → 1 ≤ n → HeldGiven S mem (Ok n) → TurnGiven S mem (n - 1) part → NumberGiven part (Err q) → NumberNext S mem (Err q)
   unfolding outcome

@@ -1,8 +1,9 @@
 -- The host: one value for session, reader and gatherer, and the serial for the records. What a request, a thing that the reader gives and a
 -- closed turn make of it.
-use Rattle.std.specs.Prelude.{ℕ, List, [], ◌∷◌, replicate, Option, Some, None}
+use Rattle.std.specs.Prelude.{ℕ, List, [], ◌∷◌, replicate, Option, Some, None, Result, Ok, Err}
 use Rattle.paper.specs.Outcome.{Outcome, if_given}
 use Rattle.paper.specs.Writing.{over}
+use Rattle.paper.specs.declared.refusal.Refusal.{Refusal}
 use Rattle.wire.specs.Request.{kind_of}
 use Rattle.wire.specs.Reply.{info_of}
 use Rattle.wire.specs.declared.reply.Info.{Info}
@@ -16,6 +17,7 @@ use Rattle.stream.specs.declared.Reading.{Reading}
 use Rattle.turn.specs.Gather.{End}
 use Rattle.record.specs.Record.{record_of}
 use Rattle.host.specs.declared.Host.{Host}
+use Rattle.host.specs.declared.Asked.{Asked}
 use Rattle.host.specs.declared.Heard.{Heard}
 use Rattle.host.specs.declared.Turned.{Turned}
 
@@ -31,6 +33,11 @@ asked h time q = record {
   gatherer = record { count = 0 };
   serial = h.serial;
 }
+
+-- the host behind a sending: the answer's, and the very one where it is refused
+unfoldable pub after : Host → Result Asked Refusal → Host
+after h (Ok r) = r.host
+after h (Err q) = h
 
 -- the end of a reply ends the awaiting, also where the reply does not read
 unfoldable pub waited : Session → Thing → Session

@@ -1,4 +1,4 @@
--- The lines of a text, and how much room each takes: `turn_added` (the pieces of one make it), `line_refused`, `lines_next` (one turn more), `turn_same`
+-- The lines of a text, and how much room each takes: `turn_added` and `turn_line_lem` (the pieces of one make it), `line_refused`, `lines_next` (one turn more), `turn_same`
 -- (the part that `turn` hands out has the line of the turn), `text_held` and `text_refused` (the whole text).
 use Rattle.std.proofs.Common.{◌≡◌, ℕ, ◌+◌, ◌<◌, ◌≤◌, Bool, true, false, List, ◌++◌, length, refl, sym, ap, ◌∙◌, inl, inr, arith, length-append, ne_eqb, eq-eqb, ◌*◌, ◌-◌, [], ◌∷◌, append_assoc, append-nil, add-one}
 use Rattle.std.specs.Prelude.{Ok, Err}
@@ -8,7 +8,7 @@ use Rattle.paper.specs.Outcome.{Outcome, gives, refuses, mapped}
 use Rattle.paper.specs.Refusals.{number_of, outcome}
 use Rattle.paper.specs.declared.refusal.Refusal.{Refusal}
 use Rattle.paper.proofs.Outcome.{gives_one, mapped_given}
-use Rattle.record.specs.Record.{Turn, turn_of, reads}
+use Rattle.record.specs.Record.{Turn, turn_of, reads, held}
 use Rattle.record.specs.Promises.{NumberGiven, CountGiven}
 use Rattle.ring.specs.Ring.{head_of, IsRing, held as held_by, turn_at, first_turns, turns}
 use Rattle.ring.specs.Answers.{counting}
@@ -18,9 +18,10 @@ use Rattle.ring.proofs.Answered.{given_yes, given_no, mapped-refuses, ring_ok, r
 use Rattle.record.proofs.Reading.{reads_long}
 use Rattle.text.specs.Decimal.{decimal}
 use Rattle.text.specs.Refused.{space, newline, refused_line}
-use Rattle.text.specs.Appends.{PieceAdded}
+use Rattle.text.specs.Appends.{Appends, PieceAdded}
 use Rattle.text.specs.Promises.{PiecePut}
 use Rattle.text.specs.declared.Text.{Text}
+use Rattle.text.proofs.Appends.{append_more}
 use Rattle.text.proofs.Decimal.{decimal_short}
 use Rattle.text.proofs.Pieces.{added_none, added_first, added_more, added_is}
 use Rattle.text.proofs.Refused.{refused_short}
@@ -64,6 +65,21 @@ line_short number count cells a b c d =
     ))
 
 -- ---- one line
+
+-- the pieces of a line, one behind the other
+pub turn_line_lem : (rec : List ℕ) {was one two three four is : List ℕ} {from a b c d r number count n q : ℕ}
+    → Appends was from (decimal number ++ space) a one → number ≡ (held rec).number
+    → Appends one a (decimal count ++ space) b two → count ≡ (held rec).count
+    → Appends two b (decimal n ++ space) c three → n ≡ filled (held rec).cells
+    → Appends three c (distance q) d four → q ≡ nearest (held rec).cells
+    → Appends four d newline r is
+    → Appends was from (turn_line (held rec)) r is
+unfolding turn_line
+turn_line_lem rec p₁ e₁ p₂ e₂ p₃ e₃ p₄ e₄ p₅ =
+    append_is (append_more (append_more (append_more (append_more p₁ p₂) p₃) p₄) p₅) (rw (e₁, e₂, e₃, e₄))
+  where
+    append_is : {was is xs ys : List ℕ} {from r : ℕ} → Appends was from xs r is → xs ≡ ys → Appends was from ys r is
+    append_is p e = rw e at p
 
 line_told : {o : Outcome Turn} {t : Turn} {number count : ℕ} {cells : List ℕ} → o ≡ gives t → number ≡ t.number → count ≡ t.count → cells ≡ t.cells
     → line_of number count cells ≡ line_by o

@@ -1,3 +1,4 @@
+pub mod Checks
 pub mod Unchanged
 pub mod Steps
 pub mod Histories
